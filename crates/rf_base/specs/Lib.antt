@@ -1,0 +1,15 @@
+pub mod Bytes
+pub mod Cause
+pub mod Decimal
+pub mod FaultCounts
+pub mod FileName
+pub mod Input
+pub mod Khz
+pub mod LineBuffer
+pub mod Name
+pub mod Padded
+pub mod Piece
+pub mod Reader
+pub mod Script
+pub mod Shelf
+pub mod Told

@@ -1,0 +1,137 @@
+//! The real outside: a reader as a source, a writer as a sink, a folder as a shelf. Each counts its faults, and tells no contents.
+
+ghost use Rattle.std.specs.Prelude.{◌≤◌, ◌<◌, ◌+◌, None, IfOk, OnErr, vec_len};
+
+use crate::fault_counts::FaultCounts;
+use crate::outside::{Failed, Sink, Source};
+use crate::shelf::{Fetch, Shelf};
+use std::alloc::Global;
+use std::fs;
+use std::io::{Read, Write};
+use std::rt::Files;
+
+/// A reader, as standard input, as a source.
+#[derive(Drop)]
+pub struct StdSource<R> {
+    reader: R,
+    faults: u64,
+}
+
+impl<R: Read> StdSource<R> {
+    /// A source of what the reader gives.
+    pub fn new(reader: R) -> Self {
+        StdSource { reader, faults: 0 }
+    }
+}
+
+impl<R: Read> Source for StdSource<R> {
+    ghost left = { λ _. None };
+
+    ghost faults = { λ s. s.faults };
+
+    fn read(&mut self, room: &mut [u8]) -> Result<usize, Failed> {
+        match self.reader.read(room) {
+            Ok(count) => Ok(count),
+            Err(_) => {
+                self.faults = self.faults.saturating_add(1);
+                Err(Failed)
+            }
+        }
+    }
+}
+
+/// A writer, as standard output, as a sink. One that takes nothing of a piece has failed.
+#[derive(Drop)]
+pub struct StdSink<W> {
+    writer: W,
+    faults: u64,
+}
+
+impl<W: Write> StdSink<W> {
+    /// A sink whose pieces the writer takes.
+    pub fn new(writer: W) -> Self {
+        StdSink { writer, faults: 0 }
+    }
+}
+
+impl<W: Write> Sink for StdSink<W> {
+    ghost contents = { λ _. None };
+
+    ghost faults = { λ s. s.faults };
+
+    fn write(&mut self, piece: &[u8]) -> Result<usize, Failed> {
+        match self.writer.write(piece) {
+            Ok(count) if count > 0 || piece.is_empty() => Ok(count),
+            _ => {
+                self.faults = self.faults.saturating_add(1);
+                Err(Failed)
+            }
+        }
+    }
+}
+
+const CHUNK: usize = 65_536;
+
+/// The files of the working folder.
+#[derive(Drop)]
+pub struct FolderShelf<R> {
+    files: R,
+    counts: FaultCounts,
+}
+
+impl<R: Files> FolderShelf<R> {
+    /// A shelf of the files that a runtime reaches.
+    pub fn new(alloc: Global, files: R) -> Self {
+        FolderShelf {
+            files,
+            counts: FaultCounts::new(alloc),
+        }
+    }
+}
+
+impl<R: Files> Shelf for FolderShelf<R> {
+    ghost use Rattle.rf_base.specs.FaultCounts.{count_of};
+
+    ghost file = { λ _ name. None };
+
+    ghost faults = { λ s name. count_of s.counts name };
+
+    fn fetch(&mut self, alloc: Global, name: &str, limit: usize) -> Result<Vec<u8>, Fetch> {
+        if self.counts.open(alloc, name).is_err() {
+            return Err(Fetch::Memory);
+        }
+        let fetched = match fs::open(&self.files, name) {
+            Ok(mut file) => read_whole(alloc, &mut file, limit),
+            Err(_) => Err(Fetch::Failed),
+        };
+        if fetched == Err(Fetch::Failed) {
+            self.counts.raise(name);
+        }
+        fetched
+    }
+}
+
+/// All that a reader gives, if it has at most `limit` bytes.
+fn read_whole<F: Read>(alloc: Global, file: &mut F, limit: usize) -> Result<Vec<u8>, Fetch>
+    ensures { IfOk result (λ bytes. vec_len bytes ≤ limit) }
+{
+    let mut bytes = Vec::new(alloc);
+    let Ok(mut chunk) = vec![in alloc; 0; CHUNK] else {
+        return Err(Fetch::Memory);
+    };
+    for _ in 0..u64::MAX {
+        let Ok(count) = file.read(chunk.as_mut_slice()) else {
+            return Err(Fetch::Failed);
+        };
+        if count == 0 {
+            return Ok(bytes);
+        }
+        if count > limit - bytes.len() {
+            return Err(Fetch::Large);
+        }
+        if bytes.extend_from_slice(&chunk[..count]).is_err() {
+            return Err(Fetch::Memory);
+        }
+    }
+    Err(Fetch::Large)
+}
