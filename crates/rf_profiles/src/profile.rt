@@ -1,0 +1,85 @@
+ghost use Rattle.std.specs.Prelude.{◌≡◌};
+ghost use Rattle.std.specs.List.{list_all};
+ghost use Rattle.rf_profiles.specs.Profile.{is_width, margin_of, profile_of};
+
+use crate::channels::Channels;
+use crate::range::Range;
+use rf_base::Name;
+use rf_terms::{Kind, Margin, asks};
+
+/// How far an intermodulation product must stay from a victim of this profile, in kilohertz. A margin of 0 asks nothing.
+#[derive(Clone, Copy, Debug)]
+pub struct Margins {
+    /// Of order 3, from two carriers.
+    pub m2t3: u32,
+    /// Of order 3, from three carriers.
+    pub m3t3: u32,
+    /// Of order 5, from two carriers.
+    pub m2t5: u32,
+    /// Of order 5, from three carriers.
+    pub m3t5: u32,
+}
+
+/// What transmitters of one make have in common.
+#[derive(Clone, Copy, Debug)]
+pub struct Profile {
+    /// Its name among the profiles of a show.
+    pub name: Name,
+    /// The frequencies at which its carriers may stand.
+    pub channels: Channels,
+    /// How far another carrier must stay, in kilohertz.
+    pub spacing: u32,
+    /// Half the width that a carrier takes up, in kilohertz.
+    pub half: u32,
+    /// How far intermodulation products must stay.
+    pub margins: Margins,
+}
+
+impl Profile {
+    /// The largest spacing, half width or margin that a text may give, in kilohertz.
+    pub const MAX_WIDTH: u32 = 100_000;
+
+    /// The profile of one range with these numbers: from, to, step, spacing, half and the margins in their order. None
+    /// exactly where the first three are no range, another number is above 100,000, or there are more than 65,536
+    /// channels.
+    pub fn from_numbers(name: Name, numbers: &[u32; 9]) -> Option<Profile>
+        ensures { result ≡ profile_of name numbers.now }
+    {
+        let [from, to, step, spacing, half, m2t3, m3t3, m2t5, m3t5] = *numbers;
+        if !are_widths(&numbers[3..]) {
+            return None;
+        }
+        let channels = Channels::one(Range::new(from, to, step)?)?;
+        Some(Profile {
+            name,
+            channels,
+            spacing,
+            half,
+            margins: Margins {
+                m2t3,
+                m3t3,
+                m2t5,
+                m3t5,
+            },
+        })
+    }
+
+    /// What this profile asks of the form of a kind, in kilohertz.
+    pub fn margin(&self, kind: Kind) -> u32
+        ensures { result ≡ margin_of self.now kind }
+    {
+        match asks(kind) {
+            Margin::Spacing => self.spacing,
+            Margin::M2t3 => self.margins.m2t3,
+            Margin::M3t3 => self.margins.m3t3,
+            Margin::M2t5 => self.margins.m2t5,
+            Margin::M3t5 => self.margins.m3t5,
+        }
+    }
+}
+
+fn are_widths(numbers: &[u32]) -> bool
+    ensures { result ≡ list_all is_width numbers.now }
+{
+    numbers.iter().all(|&n| n <= Profile::MAX_WIDTH)
+}
