@@ -1,0 +1,7 @@
+pub mod Couplings
+pub mod Filled
+pub mod Slices
+pub mod Timed
+pub mod Times
+pub mod ZoneNames
+pub mod Zones
