@@ -1,0 +1,4 @@
+pub mod TrimLemmas
+pub mod RecordLemmas
+pub mod ScanLemmas
+pub mod HotLemmas

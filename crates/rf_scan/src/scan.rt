@@ -1,0 +1,62 @@
+ghost use Rattle.std.specs.Prelude.{◌≡◌, ◌≢◌, ◌≤◌, Ok, Err, IfOk, IfErr, length};
+ghost use Rattle.rf_scan.specs.Scan as spec;
+
+use crate::fault::ScanFault;
+use crate::field::{is_passed_over, point_of};
+use crate::point::Point;
+use csv::ReaderBuilder;
+use rf_exclusions::Sep;
+use std::alloc::Global;
+
+// How many points a scan file may have.
+const MAX_POINTS: usize = 200_000;
+
+/// The points of a scan file of at most 16,777,216 bytes, in its order. `NoPoints`, `BadRecord` and `Many` come exactly where the
+/// records give them, and of two the one that comes first in the file. `Memory` where no memory is found.
+pub fn read_scan(alloc: Global, bytes: &[u8], sep: Sep) -> Result<Vec<Point>, ScanFault>
+    requires { length bytes.now ≤ 16777216 }
+    ensures points { IfOk result (λ points. spec.scan_of sep bytes.now ≡ Ok points.items) }
+    ensures fault { IfErr result (λ e. e ≢ ScanFault.Memory → spec.scan_of sep bytes.now ≡ Err e) }
+{
+    let rdr = ReaderBuilder::new()
+        .delimiter(separator(sep))
+        .has_headers(false)
+        .flexible(true)
+        .from_reader(alloc, bytes);
+    let mut points = Vec::new(alloc);
+    let mut number = 0;
+    for row in rdr.into_byte_records() {
+        let row = match row {
+            Ok(row) => row,
+            Err(_) => return Err(ScanFault::Memory),
+        };
+        number += 1;
+        if is_passed_over(points.len(), &row) {
+            continue;
+        }
+        let point = match point_of(&row) {
+            Ok(point) => point,
+            Err(field) => return Err(ScanFault::BadRecord { number, field }),
+        };
+        if points.len() >= MAX_POINTS {
+            return Err(ScanFault::Many);
+        }
+        if points.push(point).is_err() {
+            return Err(ScanFault::Memory);
+        }
+    }
+    if points.is_empty() {
+        return Err(ScanFault::NoPoints);
+    }
+    Ok(points)
+}
+
+fn separator(sep: Sep) -> u8
+    ensures { result ≡ spec.separator sep }
+{
+    match sep {
+        Sep::Comma => b',',
+        Sep::Semicolon => b';',
+        Sep::Tab => b'\t',
+    }
+}
