@@ -1,0 +1,116 @@
+use Rattle.std.proofs.Common.{◌≡◌, ℕ, zero, suc, ◌+◌, ◌<◌, ◌≤◌, Bool, true, false, not, ◌&&◌, ◌||◌, cond, List, [], ◌∷◌, map, length, get_or, find, Some, None, is_some, position, nat_lt, Option, refl, ap, sym, ◌∙◌, arith}
+use Rattle.std.specs.List.{list_all, list_any, position_or_len}
+use Rattle.std.proofs.lemmas.Bool.{lt-ltb}
+use Rattle.std.proofs.lemmas.List.{length-map}
+use Rattle.rf_show.specs.After.{change_first, remove_first}
+use Rattle.rf_show.proofs.ListLemmas.{and_true, both_true}
+
+-- ---- what a change of the first element leaves
+
+map_cond : {X Y : Type 0} (b : Bool) (g : X → Y) (x y : X) (xs ys : List X) (zs : List Y) → g y ≡ g x → map g ys ≡ zs → map g xs ≡ zs → map g (cond b (y ∷ xs) (x ∷ ys)) ≡ g x ∷ zs
+map_cond true g x y xs ys zs e h k = ap (λ z. z ∷ map g xs) e ∙ ap (λ q. g x ∷ q) k
+map_cond false g x y xs ys zs e h k = ap (λ q. g x ∷ q) h
+
+pub map-change_first : {X Y : Type 0} (g : X → Y) (p : X → Bool) (f : X → X) (xs : List X) → ((x : X) → g (f x) ≡ g x) → map g (change_first p f xs) ≡ map g xs
+map-change_first g p f [] e = refl
+map-change_first g p f (x ∷ xs) e = map_cond (p x) g x (f x) xs (change_first p f xs) (map g xs) (e x) (map-change_first g p f xs e) refl
+
+pub length-change_first : {X : Type 0} (p : X → Bool) (f : X → X) (xs : List X) → length (change_first p f xs) ≡ length xs
+length-change_first {X} p f xs =
+    let none : X → ℕ = λ x. 0 in
+    sym (length-map (change_first p f xs) none) ∙ ap length (map-change_first none p f xs (λ x. refl)) ∙ length-map xs none
+
+all_cond : {X : Type 0} (b : Bool) (q : X → Bool) (x y : X) (xs ys : List X) → q y ≡ q x → list_all q ys ≡ list_all q xs → list_all q (cond b (y ∷ xs) (x ∷ ys)) ≡ (q x && list_all q xs)
+all_cond true q x y xs ys e h = ap (λ z. z && list_all q xs) e
+all_cond false q x y xs ys e h = ap (λ z. q x && z) h
+
+pub list_all-change_first : {X : Type 0} (q : X → Bool) (p : X → Bool) (f : X → X) (xs : List X) → ((x : X) → q (f x) ≡ q x) → list_all q (change_first p f xs) ≡ list_all q xs
+list_all-change_first q p f [] e = refl
+list_all-change_first q p f (x ∷ xs) e = all_cond (p x) q x (f x) xs (change_first p f xs) (e x) (list_all-change_first q p f xs e)
+
+-- ---- what a removal of the first element leaves
+
+length_cond : {X : Type 0} (b : Bool) (x : X) (xs ys : List X) → length ys ≤ length xs → length (cond b xs (x ∷ ys)) ≤ suc (length xs)
+length_cond true x xs ys h = omega arith
+length_cond false x xs ys h = omega arith
+
+pub length-remove_first : {X : Type 0} (p : X → Bool) (xs : List X) → length (remove_first p xs) ≤ length xs
+length-remove_first p [] = omega arith
+length-remove_first p (x ∷ xs) = length_cond (p x) x xs (remove_first p xs) (length-remove_first p xs)
+
+all_left : {X : Type 0} (b : Bool) (q : X → Bool) (x : X) (xs ys : List X) → (q x && list_all q xs) ≡ true → (list_all q xs ≡ true → list_all q ys ≡ true) → list_all q (cond b xs (x ∷ ys)) ≡ true
+all_left true q x xs ys h k = (both_true _ _ h).1
+all_left false q x xs ys h k = and_true _ _ (both_true _ _ h).0 (k (both_true _ _ h).1)
+
+pub list_all-remove_first : {X : Type 0} (q : X → Bool) (p : X → Bool) (xs : List X) → list_all q xs ≡ true → list_all q (remove_first p xs) ≡ true
+list_all-remove_first q p [] h = refl
+list_all-remove_first q p (x ∷ xs) h = all_left (p x) q x xs (remove_first p xs) h (list_all-remove_first q p xs)
+
+any_rest : (a b c : Bool) → (a || b) ≡ true → (b ≡ true → c ≡ true) → (a || c) ≡ true
+any_rest true b c h k = refl
+any_rest false b c h k = k h
+
+any_left : {X : Type 0} (b : Bool) (q : X → Bool) (x : X) (xs ys : List X) → (b ≡ true → q x ≡ false) → (q x || list_any q xs) ≡ true → (list_any q xs ≡ true → list_any q ys ≡ true) → list_any q (cond b xs (x ∷ ys)) ≡ true
+any_left true q x xs ys n h k = sym (ap (λ z. z || list_any q xs) (n refl)) ∙ h
+any_left false q x xs ys n h k = any_rest (q x) (list_any q xs) (list_any q ys) h k
+
+-- an element that isn't removed is still there
+pub list_any-remove_first : {X : Type 0} (q : X → Bool) (p : X → Bool) (xs : List X) → ((x : X) → p x ≡ true → q x ≡ false) → list_any q xs ≡ true → list_any q (remove_first p xs) ≡ true
+list_any-remove_first q p [] n h = cc
+list_any-remove_first q p (x ∷ xs) n h = any_left (p x) q x xs (remove_first p xs) (n x) h (list_any-remove_first q p xs n)
+
+or_false : (a b : Bool) → (a || b) ≡ false → (a ≡ false) × (b ≡ false)
+or_false true b h = cc
+or_false false b h = (refl, h)
+
+none_cond : {X : Type 0} (b : Bool) (q : X → Bool) (x : X) (xs ys : List X) → (q x || list_any q xs) ≡ false → (list_any q xs ≡ false → list_any q ys ≡ false) → list_any q (cond b xs (x ∷ ys)) ≡ false
+none_cond true q x xs ys h k = (or_false (q x) _ h).1
+none_cond false q x xs ys h k = ap (λ z. z || list_any q ys) (or_false (q x) _ h).0 ∙ k (or_false (q x) _ h).1
+
+pub none-remove_first : {X : Type 0} (q : X → Bool) (p : X → Bool) (xs : List X) → list_any q xs ≡ false → list_any q (remove_first p xs) ≡ false
+none-remove_first q p [] h = refl
+none-remove_first q p (x ∷ xs) h = none_cond (p x) q x xs (remove_first p xs) h (none-remove_first q p xs)
+
+-- ---- finding
+
+find_cond : {X : Type 0} (b : Bool) (x : X) (r : Option X) (c : Bool) → is_some r ≡ c → is_some (cond b (Some x) r) ≡ (b || c)
+find_cond true x r c h = refl
+find_cond false x r c h = h
+
+pub find_any : {X : Type 0} (p : X → Bool) (xs : List X) → is_some (find p xs) ≡ list_any p xs
+find_any p [] = refl
+find_any p (x ∷ xs) = find_cond (p x) x (find p xs) (list_any p xs) (find_any p xs)
+
+pub list_any-map : {X Y : Type 0} (q : Y → Bool) (g : X → Y) (xs : List X) → list_any q (map g xs) ≡ list_any (λ x. q (g x)) xs
+list_any-map q g [] = refl
+list_any-map q g (x ∷ xs) = ap (λ z. q (g x) || z) (list_any-map q g xs)
+
+pub list_any-same : {X : Type 0} (p q : X → Bool) (xs : List X) → ((x : X) → p x ≡ q x) → list_any p xs ≡ list_any q xs
+list_any-same p q [] e = refl
+list_any-same p q (x ∷ xs) e = ap (λ z. z || list_any p xs) (e x) ∙ ap (λ z. q x || z) (list_any-same p q xs e)
+
+place_cond : (b c : Bool) (i n : ℕ) → nat_lt i n ≡ c → nat_lt (cond (not b) (1 + i) 0) (suc n) ≡ (b || c)
+place_cond true c i n h = lt-ltb 0 (suc n) (omega arith)
+place_cond false c i n h = grind arith
+
+place_any : {X : Type 0} (p : X → Bool) (xs : List X) → nat_lt (position_or_len p xs) (length xs) ≡ list_any p xs
+place_any p [] = refl
+place_any p (x ∷ xs) = place_cond (p x) (list_any p xs) (position_or_len p xs) (length xs) (place_any p xs)
+
+some_cond : {X : Type 0} (b : Bool) (x : X) → is_some (cond b (Some x) None) ≡ b
+some_cond true x = refl
+some_cond false x = refl
+
+pub position_any : {X : Type 0} (p : X → Bool) (xs : List X) → is_some (position p xs) ≡ list_any p xs
+position_any p xs = some_cond (nat_lt (position_or_len p xs) (length xs)) (position_or_len p xs) ∙ place_any p xs
+
+found_cond : {X : Type 0} (p : X → Bool) (x : X) (xs : List X) (i : ℕ) (c : X) (b : Bool) → i ≡ cond (not b) (1 + position_or_len p xs) 0 → i < suc (length xs) → c ≡ get_or (x ∷ xs) i c → ((j : ℕ) → j ≡ position_or_len p xs → j < length xs → c ≡ get_or xs j c → find p xs ≡ Some c) → cond b (Some x) (find p xs) ≡ Some c
+found_cond p x xs zero c true e h v rest = ap Some (sym v)
+found_cond p x xs (suc i) c true e h v rest = absurd (omega arith)
+found_cond p x xs zero c false e h v rest = absurd (omega arith)
+found_cond p x xs (suc i) c false e h v rest = rest i (omega arith) (omega arith) v
+
+-- what is at the first place is what is found
+pub find_at : {X : Type 0} (p : X → Bool) (xs : List X) (i : ℕ) (c : X) → i ≡ position_or_len p xs → i < length xs → c ≡ get_or xs i c → find p xs ≡ Some c
+find_at p [] i c e h v = absurd (omega arith)
+find_at p (x ∷ xs) i c e h v = found_cond p x xs i c (p x) e h v (λ j. find_at p xs j c)

@@ -1,0 +1,62 @@
+use Rattle.std.proofs.Common.{◌≡◌, ◌≤◌, true, List, length, refl}
+use Rattle.std.specs.List.{list_all}
+use Rattle.std.proofs.lemmas.Bool.{le-leb, leb-true}
+use Rattle.rf_profiles.specs.declared.profile.Profile.{Profile}
+use Rattle.rf_zones.specs.Zones.{ZonesData}
+use Rattle.rf_show.specs.declared.carrier.Carrier.{Carrier}
+use Rattle.rf_show.specs.Limits.{most_carriers, most_profiles}
+use Rattle.rf_show.specs.Show.{ShowData, first_show, is_show, are_profiles, are_carriers, are_bans, are_scans, differ, profile_names, carrier_names, is_narrow, belongs}
+use Rattle.rf_show.proofs.ListLemmas.{and_true, both_true}
+
+-- what every show keeps, part by part
+pub record Kept (s : ShowData) : Type 0 where
+  pub profiles : are_profiles s.profiles ≡ true
+  pub carriers : are_carriers s.profiles s.zones s.carriers ≡ true
+  pub bans : are_bans s.zones s.bans ≡ true
+  pub scans : are_scans s.zones s.scans ≡ true
+
+pub kept : (s : ShowData) → is_show s ≡ true → Kept s
+unfolding is_show
+kept s h =
+    let scans = both_true _ _ h in
+    let bans = both_true _ _ scans.0 in
+    let lists = both_true _ _ bans.0 in
+    record { profiles = lists.0; carriers = lists.1; bans = bans.1; scans = scans.1 }
+
+pub is_kept : (s : ShowData) → Kept s → is_show s ≡ true
+unfolding is_show
+is_kept s k = and_true _ _ (and_true _ _ (and_true _ _ k.profiles k.carriers) k.bans) k.scans
+
+pub first_kept : is_show first_show ≡ true
+unfolding is_show
+first_kept = refl
+
+-- what the profiles keep
+pub record ProfilesKept (ps : List Profile) : Type 0 where
+  pub few : length ps ≤ most_profiles
+  pub apart : differ (profile_names ps) ≡ true
+  pub narrow : list_all is_narrow ps ≡ true
+
+pub profiles_kept : (ps : List Profile) → are_profiles ps ≡ true → ProfilesKept ps
+profiles_kept ps h =
+    let narrow = both_true _ _ h in
+    let names = both_true _ _ narrow.0 in
+    record { few = leb-true _ _ names.0; apart = names.1; narrow = narrow.1 }
+
+pub are_kept_profiles : (ps : List Profile) → ProfilesKept ps → are_profiles ps ≡ true
+are_kept_profiles ps k = and_true _ _ (and_true _ _ (le-leb _ _ k.few) k.apart) k.narrow
+
+-- what the carriers keep
+pub record CarriersKept (ps : List Profile) (z : ZonesData) (cs : List Carrier) : Type 0 where
+  pub few : length cs ≤ most_carriers
+  pub apart : differ (carrier_names cs) ≡ true
+  pub placed : list_all (belongs ps z) cs ≡ true
+
+pub carriers_kept : (ps : List Profile) (z : ZonesData) (cs : List Carrier) → are_carriers ps z cs ≡ true → CarriersKept ps z cs
+carriers_kept ps z cs h =
+    let placed = both_true _ _ h in
+    let names = both_true _ _ placed.0 in
+    record { few = leb-true _ _ names.0; apart = names.1; placed = placed.1 }
+
+pub are_kept_carriers : (ps : List Profile) (z : ZonesData) (cs : List Carrier) → CarriersKept ps z cs → are_carriers ps z cs ≡ true
+are_kept_carriers ps z cs k = and_true _ _ (and_true _ _ (le-leb _ _ k.few) k.apart) k.placed

@@ -1,0 +1,11 @@
+pub mod AdmittedLemmas
+pub mod EditedLemmas
+pub mod FirstLemmas
+pub mod KeptLemmas
+pub mod ListLemmas
+pub mod NameLemmas
+pub mod PlaceLemmas
+pub mod ReasonLemmas
+pub mod RoomLemmas
+pub mod TogetherLemmas
+pub mod QueryLemmas

@@ -1,0 +1,68 @@
+-- Questions about a show. Carriers are places in its list.
+use Rattle.std.specs.Prelude.{ℕ, Bool, false, List, Option, Some, not, ◌&&◌, ◌||◌, ◌-◌, ◌==◌, find, map, max, slice_get, slice_index}
+use Rattle.std.specs.List.{list_all, list_any}
+use Rattle.std.specs.Option.{option_and_then, option_map_or}
+use Rattle.rf_terms.specs.declared.kind.Kind.{Kind}
+use Rattle.rf_terms.specs.declared.kind.Kind.TheVariants.{Spacing}
+use Rattle.rf_terms.specs.Kinds.{roles_of}
+use Rattle.rf_profiles.specs.Channels.{channels}
+use Rattle.rf_profiles.specs.Profile as profile
+use Rattle.rf_profiles.specs.declared.profile.Profile.{Profile}
+use Rattle.rf_zones.specs.Zones.{ZonesData, heard}
+use Rattle.rf_zones.specs.Slices.{share_minute}
+use Rattle.rf_show.specs.Show.{ShowData, is_profile, zone_number}
+use Rattle.rf_show.specs.Reasons.{same_at}
+use Rattle.rf_show.specs.declared.carrier.Carrier.{Carrier}
+
+-- the frequency at which a carrier stands
+abbrev pub at_of : ShowData → ℕ → Option ℕ
+at_of show c = option_and_then (λ carrier. carrier.at) (slice_get show.carriers c)
+
+abbrev pub profile_of : ShowData → ℕ → Option Profile
+profile_of show c =
+    option_and_then (λ carrier. find (is_profile carrier.profile) show.profiles) (slice_get show.carriers c)
+
+-- the frequency of a carrier's channel
+abbrev pub channel_of : ShowData → ℕ → ℕ → Option ℕ
+channel_of show c k = option_and_then (λ p. slice_get (channels p.channels) k) (profile_of show c)
+
+-- a frequency is a channel of a carrier
+abbrev pub is_channel : ShowData → ℕ → ℕ → Bool
+is_channel show c f = option_map_or (λ p. list_any (λ g. f == g) (channels p.channels)) (profile_of show c) false
+
+-- a carrier that is locked stays where it stands
+abbrev pub may_stand : Carrier → ℕ → Bool
+may_stand carrier f = not carrier.locked || same_at carrier.at (Some f)
+
+abbrev pub may_stand_at : ShowData → ℕ → ℕ → Bool
+may_stand_at show c f = option_map_or (λ carrier. may_stand carrier f) (slice_get show.carriers c) false
+
+-- a carrier may stand at its channel k
+abbrev pub is_allowed : ShowData → ℕ → ℕ → Bool
+is_allowed show c k = option_map_or (λ f. may_stand_at show c f) (channel_of show c k) false
+
+-- two carriers hear each other: their zones are the same or coupled
+abbrev pub hear : ZonesData → Carrier → Carrier → Bool
+hear zones a b = heard zones (zone_number zones a.zone) (zone_number zones b.zone)
+
+abbrev pub hear_at : ZonesData → List Carrier → ℕ → ℕ → Bool
+hear_at zones carriers a b =
+    option_map_or (λ c. option_map_or (λ d. hear zones c d) (slice_get carriers b) false) (slice_get carriers a) false
+
+-- each two of a set hear each other
+abbrev pub all_hear : ZonesData → List Carrier → List ℕ → Bool
+all_hear zones carriers set = list_all (λ a. list_all (λ b. hear_at zones carriers a b) set) set
+
+-- some minute of the week has all of these carriers on, and each two of them hear each other
+unfoldable pub is_together : ShowData → List ℕ → Bool
+is_together show set =
+    all_hear show.zones show.carriers set && share_minute (map (λ c. c.times) show.carriers) set
+
+-- what a carrier's profile asks of the form of a kind
+abbrev pub asked : ShowData → Kind → ℕ → ℕ
+asked show kind c = option_map_or (λ p. profile.margin_of p kind) (profile_of show c) 0
+
+-- the margin of a kind between these carriers: what the victim asks, and for spacing the larger of what the two ask
+abbrev pub margin_of : ShowData → Kind → List ℕ → ℕ
+margin_of show Spacing roles = max (asked show Spacing (slice_index roles 0)) (asked show Spacing (slice_index roles 1))
+margin_of show kind roles = asked show kind (slice_index roles (roles_of kind - 1))

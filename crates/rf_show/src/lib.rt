@@ -1,0 +1,30 @@
+//! The show: its profiles, zones, carriers, bans and scans; its edits, each with what leads back.
+#![tactic(auto)]
+
+mod admit;
+mod carrier;
+mod carrier_steps;
+mod change;
+mod edit;
+mod exclusion_steps;
+mod find;
+mod frequencies;
+mod profile_steps;
+mod query;
+mod refusal;
+mod room;
+mod show;
+#[cfg(test)]
+mod tests;
+mod together;
+mod undo;
+mod zone_change;
+
+pub use carrier::Carrier;
+pub use change::Change;
+pub use edit::Edit;
+pub use refusal::Refusal;
+pub use room::Room;
+pub use show::Show;
+pub use undo::{Step, Undo};
+pub use zone_change::ZoneChange;
