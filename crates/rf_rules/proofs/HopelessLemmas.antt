@@ -1,0 +1,77 @@
+-- Carriers with which no instance begins.
+use Rattle.std.proofs.Common.{◌≡◌, ◌<◌, ◌≤◌, ℕ, Bool, true, false, List, [], ◌∷◌, ◌++◌, length, get_or, refl, sym, ◌∙◌, arith}
+use Rattle.std.specs.Prelude.{Option, ◌&&◌, ◌||◌, ◌==◌, not, is_some, Some}
+use Rattle.std.specs.Bool.{OnTrue}
+use Rattle.std.specs.List.{list_all, list_any}
+use Rattle.std.proofs.lemmas.Bool.Decides.{nat_tests}
+use Rattle.std.proofs.lemmas.List.{get_or_append_left, get_or_at}
+use Rattle.std.proofs.lemmas.List.Folds.{list_all-append, list_any-append}
+use Rattle.rf_terms.specs.declared.kind.Kind.{Kind}
+use Rattle.rf_show.specs.Show.{ShowData}
+use Rattle.rf_show.specs.Query.{is_together}
+use Rattle.rf_rules.specs.Instances.{are_assigned, at_in, is_candidate, is_distinct, is_in_order, is_instance, stands_in_order}
+
+and-false : (b : Bool) → (b && false) ≡ false
+and-false true = refl
+and-false false = refl
+
+or-true : (b : Bool) → (b || true) ≡ true
+or-true true = refl
+or-true false = refl
+
+all-false : {X : Type 0} (p : X → Bool) (xs ys : List X) (x : X) → p x ≡ false → list_all p (xs ++ x ∷ ys) ≡ false
+all-false p xs ys x h = list_all-append p xs (x ∷ ys) ∙ rw h (and-false (list_all p xs))
+
+any-true : (p : ℕ → Bool) (xs ys : List ℕ) (x : ℕ) → p x ≡ true → list_any p (xs ++ x ∷ ys) ≡ true
+any-true p xs ys x h = list_any-append p xs (x ∷ ys) ∙ rw h (or-true (list_any p xs))
+
+and-second : (a b : Bool) → (a && false && b) ≡ false
+and-second true b = refl
+and-second false b = refl
+
+-- one carrier more in front, by whether it is the one that stands twice
+twice-at : (x c : ℕ) (t u : List ℕ) (b : Bool) → (x == c) ≡ b → (list_any (λ y. y == c) t ≡ true → is_distinct (t ++ c ∷ u) ≡ false) → (b || list_any (λ y. y == c) t) ≡ true → (not (list_any (λ d. d == x) (t ++ c ∷ u)) && is_distinct (t ++ c ∷ u)) ≡ false
+twice-at x c t u true e ih h =
+    let same : (c == x) ≡ true = grind (arith, nat_tests, e) in
+    let any : list_any (λ d. d == x) (t ++ c ∷ u) ≡ true = any-true (λ d. d == x) t u c same in
+    rw any
+twice-at x c t u false e ih h = rw (ih h) (and-false (not (list_any (λ d. d == x) (t ++ c ∷ u))))
+
+twice : (t u : List ℕ) (c : ℕ) → list_any (λ y. y == c) t ≡ true → is_distinct (t ++ c ∷ u) ≡ false
+twice [] u c h = cc
+twice (x ∷ t) u c h = twice-at x c t u (x == c) refl (twice t u c) h
+
+pub hopeless-unassigned : (show : ShowData) (ats : List (Option ℕ)) (kind : Kind) (t u : List ℕ) (c : ℕ) → is_some (at_in ats c) ≡ false → is_candidate show ats kind (t ++ c ∷ u) ≡ false
+unfolding is_candidate
+hopeless-unassigned show ats kind t u c h =
+    let e : are_assigned ats (t ++ c ∷ u) ≡ false = all-false (λ d. is_some (at_in ats d)) t u c h in
+    rw e
+
+no-candidate : (show : ShowData) (ats : List (Option ℕ)) (kind : Kind) (t : List ℕ) → is_instance show kind t ≡ false → is_candidate show ats kind t ≡ false
+unfolding is_candidate
+no-candidate show ats kind t h = rw h (and-false (are_assigned ats t))
+
+no-instance-distinct : (show : ShowData) (kind : Kind) (t : List ℕ) → is_distinct t ≡ false → is_instance show kind t ≡ false
+unfolding is_instance
+no-instance-distinct show kind t h = rw h
+
+no-instance-order : (show : ShowData) (kind : Kind) (t : List ℕ) → is_in_order kind t ≡ false → is_instance show kind t ≡ false
+unfolding is_instance
+no-instance-order show kind t h = rw h (and-second (is_distinct t) (is_together show t))
+
+pub hopeless-twice : (show : ShowData) (ats : List (Option ℕ)) (kind : Kind) (t u : List ℕ) (c : ℕ) → list_any (λ y. y == c) t ≡ true → is_candidate show ats kind (t ++ c ∷ u) ≡ false
+hopeless-twice show ats kind t u c h = no-candidate show ats kind (t ++ c ∷ u) (no-instance-distinct show kind (t ++ c ∷ u) (twice t u c h))
+
+pub hopeless-order : (show : ShowData) (ats : List (Option ℕ)) (kind : Kind) (t u : List ℕ) (c : ℕ) → is_in_order kind (t ++ c ∷ u) ≡ false → is_candidate show ats kind (t ++ c ∷ u) ≡ false
+hopeless-order show ats kind t u c h = no-candidate show ats kind (t ++ c ∷ u) (no-instance-order show kind (t ++ c ∷ u) h)
+
+pub out-of_order : (i j c : ℕ) (t u : List ℕ) → i < length t → j ≡ length t → c ≤ get_or t i 0 → stands_in_order (Some (i, j)) (t ++ c ∷ u) ≡ false
+out-of_order i j c t u h e p =
+    let a : get_or (t ++ c ∷ u) i 0 ≡ get_or t i 0 = get_or_append_left t (c ∷ u) 0 i h in
+    let b : get_or (t ++ c ∷ u) j 0 ≡ c = get_or_at t c u 0 j (sym e) in
+    rw (a, b) (grind (arith, nat_tests))
+
+-- a fact in the case of true, from another
+pub on-true : (b : Bool) (P Q : Type 0) → (P → Q) → OnTrue b P → OnTrue b Q
+on-true true P Q f h = f h
+on-true false P Q f h = h

@@ -1,0 +1,10 @@
+pub mod TallyLemmas
+pub mod TupleLemmas
+pub mod FormLemmas
+pub mod HopelessLemmas
+pub mod SearchLemmas
+pub mod ReadyLemmas
+pub mod AnalysisLemmas
+pub mod GroupLemmas
+pub mod ProductLemmas
+pub mod SizeLemmas

@@ -1,0 +1,98 @@
+ghost use Rattle.std.specs.Prelude.{◌≡◌, ◌<◌, OnOk, IfOk, length};
+ghost use Rattle.std.specs.List.{flat_map};
+ghost use Rattle.rf_terms.specs.Kinds.{kinds};
+ghost use Rattle.rf_rules.specs.Instances.{ats_of};
+ghost use Rattle.rf_rules.specs.Analyses as analyses;
+ghost use Rattle.rf_rules.specs.Analyses.{analysed, analysis, conflicts_of, off_grid};
+ghost use Rattle.rf_rules.specs.Tallies.{Extends};
+
+use crate::conflict::Conflict;
+use crate::frequencies::{assigned, at};
+use crate::lane::{ask_nothing, make_lanes};
+use crate::search::Search;
+use crate::tally::Tally;
+use rf_base::{Items, Khz, NoMemory};
+use rf_show::Show;
+use rf_terms::{Kind, coefficients, kinds};
+use std::alloc::Global;
+
+/// What is reported of a show: the first 10,000 of its conflicts, and how many it has.
+///
+/// The conflicts are the assigned carriers that are off their grid, in the order of the show; then, for each kind in the
+/// order of the rule table, its broken instances over assigned carriers, by the carrier of the first role, then by that of
+/// the second, and so on.
+#[derive(Drop)]
+pub struct Analysis {
+    pub shown: Items<Conflict>,
+    pub total: u64,
+}
+
+/// Analyses a show afresh.
+pub fn analyse(alloc: Global, show: &Show) -> Result<Analysis, NoMemory>
+    ensures { IfOk result (λ a. a ≡ analysed show.now) }
+{
+    let ats = assigned(show);
+    let ats = &ats[..show.carriers().len()];
+    let mut tally = Tally::new(alloc);
+    add_off_grid(show, ats, &mut tally)?;
+    add_broken(show, ats, &mut tally)?;
+    Ok(Analysis {
+        shown: Items::from_vec(tally.shown),
+        total: tally.total,
+    })
+}
+
+/// Adds the assigned carriers that are off their grid.
+fn add_off_grid(show: &Show, ats: &[Option<Khz>], tally: &mut Tally) -> Result<(), NoMemory>
+    requires { ats.now ≡ ats_of show.now }
+    ensures { OnOk result (Extends tally.old tally.new (off_grid show.now)) }
+{
+    for carrier in 0..ats.len() {
+        if !is_off_grid(show, carrier, at(ats, carrier)) {
+            continue;
+        }
+        tally.add(Conflict::OffGrid { carrier })?;
+    }
+    Ok(())
+}
+
+fn is_off_grid(show: &Show, carrier: usize, at: Option<Khz>) -> bool
+    requires { carrier < length show.now.carriers }
+    ensures { result ≡ analyses.is_off_grid show.now carrier at }
+{
+    match at {
+        Some(khz) => !show.has_channel(carrier, khz),
+        None => false,
+    }
+}
+
+/// Adds the broken instances of all kinds.
+fn add_broken(show: &Show, ats: &[Option<Khz>], tally: &mut Tally) -> Result<(), NoMemory>
+    requires { ats.now ≡ ats_of show.now }
+    ensures { OnOk result (Extends tally.old tally.new (flat_map (conflicts_of show.now ats.now) kinds)) }
+{
+    for kind in kinds() {
+        add_kind(show, ats, *kind, tally)?;
+    }
+    Ok(())
+}
+
+/// Adds the broken instances of a kind.
+fn add_kind(show: &Show, ats: &[Option<Khz>], kind: Kind, tally: &mut Tally) -> Result<(), NoMemory>
+    requires { length ats.now ≡ length show.now.carriers }
+    ensures { OnOk result (Extends tally.old tally.new (conflicts_of show.now ats.now kind)) }
+{
+    let lanes = make_lanes(show, ats, kind);
+    let lanes = &lanes[..ats.len()];
+    if ask_nothing(lanes) {
+        return Ok(());
+    }
+    let search = Search {
+        show,
+        ats,
+        kind,
+        coefficients: coefficients(kind),
+        lanes,
+    };
+    search.extend([0; 4], 0, 0, tally)
+}

@@ -1,0 +1,21 @@
+//! The rules of a show looked at afresh: its conflicts, from the definitions alone.
+#![tactic(auto)]
+
+mod analysis;
+mod arithmetic;
+mod conflict;
+mod frequencies;
+mod instance;
+mod lane;
+mod product;
+mod product_list;
+mod search;
+mod sources;
+mod tally;
+#[cfg(test)]
+mod tests;
+
+pub use analysis::{Analysis, analyse};
+pub use conflict::Conflict;
+pub use product::{Product, Products};
+pub use product_list::products;

@@ -1,0 +1,76 @@
+ghost use Rattle.std.specs.Prelude.{◌≡◌, ◌++◌, ◌<◌, IfOk, OnOk, length};
+ghost use Rattle.std.specs.List.{flat_map};
+ghost use Rattle.rf_terms.specs.Kinds.{kinds, roles_of};
+ghost use Rattle.rf_rules.specs.Instances.{ats_of};
+ghost use Rattle.rf_rules.specs.Products.{listed, noted_of};
+
+use crate::frequencies::assigned;
+use crate::lane::make_lanes;
+use crate::product::{Product, Products, sort_by_size};
+use crate::search::Search;
+use crate::tally::Tally;
+use rf_base::{Items, Khz, NoMemory};
+use rf_show::Show;
+use rf_terms::{Kind, coefficients, kinds, roles};
+use std::alloc::Global;
+
+/// The intermodulation products from `lo` to `hi` of all kinds but spacing, over assigned sources that are together,
+/// whatever the margins; by value, then by kind in the order of the rule table, then by sources.
+pub fn products(alloc: Global, show: &Show, lo: Khz, hi: Khz) -> Result<Products, NoMemory>
+    ensures { IfOk result (λ r. r ≡ listed show.now lo hi) }
+{
+    let ats = assigned(show);
+    let ats = &ats[..show.carriers().len()];
+    let mut found = Vec::new(alloc);
+    add_products(show, ats, lo, hi, &mut found)?;
+    sort_by_size(&mut found)?;
+    let total = found.len() as u64;
+    found.truncate(Tally::MAX_SHOWN);
+    Ok(Products {
+        shown: Items::from_vec(found),
+        total,
+    })
+}
+
+/// Adds the products from `lo` to `hi` of all kinds that have a victim.
+fn add_products(
+    show: &Show,
+    ats: &[Option<Khz>],
+    lo: Khz,
+    hi: Khz,
+    found: &mut Vec<Product>,
+) -> Result<(), NoMemory>
+    requires { length ats.now ≡ length show.now.carriers }
+    ensures { OnOk result (found.new.items ≡ found.old.items ++ flat_map (noted_of show.now ats.now lo hi) kinds) }
+{
+    for kind in kinds() {
+        add_kind(show, ats, *kind, lo, hi, found)?;
+    }
+    Ok(())
+}
+
+/// Adds the products from `lo` to `hi` of a kind, if it has a victim.
+fn add_kind(
+    show: &Show,
+    ats: &[Option<Khz>],
+    kind: Kind,
+    lo: Khz,
+    hi: Khz,
+    found: &mut Vec<Product>,
+) -> Result<(), NoMemory>
+    requires { length ats.now ≡ length show.now.carriers }
+    ensures { OnOk result (found.new.items ≡ found.old.items ++ noted_of show.now ats.now lo hi kind) }
+{
+    if roles(kind) <= 2 {
+        return Ok(());
+    }
+    let lanes = make_lanes(show, ats, kind);
+    let search = Search {
+        show,
+        ats,
+        kind,
+        coefficients: coefficients(kind),
+        lanes: &lanes[..ats.len()],
+    };
+    search.sources([0; 4], 0, 0, lo, hi, found)
+}
