@@ -1,0 +1,110 @@
+ghost use Rattle.std.specs.Prelude.{◌≡◌, IfOk, IfErr, OnErr, IsSome, IsTrue, Ok, Err, Some};
+ghost use Rattle.rf_rules.specs.Analyses.{analysed};
+ghost use Rattle.rf_show.specs.After.{after, is_edit};
+ghost use Rattle.rf_show.specs.Show.{first_show};
+ghost use Rattle.rf_show.specs.Taken.{taken};
+ghost use Rattle.rf_show.specs.declared.refusal.Refusal.{Refusal};
+
+use rf_base::NoMemory;
+use rf_rules::{Analysis, analyse};
+use rf_show::{Edit, Refusal, Show, Undo};
+use std::alloc::Global;
+use std::marker::Model;
+
+/// Why an edit isn't made.
+#[derive(Debug, Drop)]
+pub enum EditFault {
+    /// The show refuses it.
+    Refused(Refusal),
+    /// No memory was found.
+    Memory,
+}
+
+/// A show and its analysis, which is made afresh at each change.
+#[derive(Drop)]
+pub(crate) struct AnalysedShow {
+    alloc: Global,
+    show: Show,
+    analysis: Analysis,
+}
+
+impl Model for AnalysedShow {
+    ghost use Rattle.std.specs.Prelude.{◌≡◌};
+    ghost use Rattle.rf_show.specs.Show.{ShowData};
+    ghost use Rattle.rf_rules.specs.Analyses.{analysed};
+
+    ghost Value = { ShowData };
+
+    ghost view = { λ a. a.show };
+
+    ghost invariant = { λ a. a.analysis ≡ analysed a.show };
+}
+
+impl AnalysedShow {
+    /// The show with the zone `main` alone.
+    pub(crate) fn new(alloc: Global) -> Result<AnalysedShow, NoMemory>
+        ensures { IfOk result (λ show. show ≡ first_show) }
+    {
+        let show = Show::new(alloc)?;
+        let analysis = analyse(alloc, &show)?;
+        Ok(AnalysedShow {
+            alloc,
+            show,
+            analysis,
+        })
+    }
+
+    /// Makes an edit, and answers what leads back. A refusal and want of memory change nothing.
+    pub(crate) fn apply(&mut self, edit: Edit) -> Result<Undo, EditFault>
+        requires { IsTrue (is_edit edit) }
+        ensures after { IfOk result (λ _. after self.old edit ≡ Ok self.new) }
+        ensures undo { IfOk result (λ undo. taken self.new undo ≡ Some self.old) }
+        ensures refused { (reason : Refusal) → result ≡ Err (EditFault.Refused reason) → after self.old edit ≡ Err reason }
+        ensures unchanged { OnErr result (self.new ≡ self.old) }
+    {
+        match self.show.apply(edit) {
+            Err(reason) => Err(EditFault::Refused(reason)),
+            Ok(undo) => match analyse(self.alloc, &self.show) {
+                Ok(analysis) => {
+                    self.analysis = analysis;
+                    Ok(undo)
+                }
+                Err(NoMemory) => {
+                    let _ = self.show.back(undo);
+                    Err(EditFault::Memory)
+                }
+            },
+        }
+    }
+
+    /// Goes to the show to which an undo value leads, and answers what leads back from there. After want of memory nothing
+    /// has changed, and the answer leads where the undo value led.
+    pub(crate) fn back(&mut self, undo: Undo) -> Result<Undo, Undo>
+        requires { IsSome (taken self.old undo) }
+        ensures there { IfOk result (λ _. taken self.old undo ≡ Some self.new) }
+        ensures forth { IfOk result (λ undo. taken self.new undo ≡ Some self.old) }
+        ensures unchanged { OnErr result (self.new ≡ self.old) }
+        ensures kept { IfErr result (λ same. taken self.old same ≡ taken self.old undo) }
+    {
+        let forth = self.show.back(undo);
+        match analyse(self.alloc, &self.show) {
+            Ok(analysis) => {
+                self.analysis = analysis;
+                Ok(forth)
+            }
+            Err(NoMemory) => Err(self.show.back(forth)),
+        }
+    }
+
+    pub(crate) fn show(&self) -> &Show
+        ensures { result.now ≡ self.now }
+    {
+        &self.show
+    }
+
+    pub(crate) fn analysis(&self) -> &Analysis
+        ensures { result.now ≡ analysed self.now }
+    {
+        &self.analysis
+    }
+}
