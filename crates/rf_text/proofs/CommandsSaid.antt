@@ -1,0 +1,181 @@
+-- What holds of each command that some line has: its names are names, and its numbers are short.
+use Rattle.std.proofs.Common.{◌≡◌, ◌<◌, ℕ, zero, suc, List, [], ◌∷◌, true, length, refl, ap, Some, None, Ok, subst}
+use Rattle.std.specs.Prelude.{◌^◌, IfSome, IsTrue, option_map, option_and_then, ok_or}
+use Rattle.std.specs.declared.option.Option.{Option}
+use Rattle.rf_base.specs.Decimal.{number_of}
+use Rattle.rf_base.specs.Name.{is_name, name_of}
+use Rattle.rf_show.specs.declared.edit.Edit.{Edit}
+use Rattle.rf_show.specs.declared.edit.Edit.TheVariants as edit
+use Rattle.rf_show.specs.After.{is_edit}
+use Rattle.rf_text.specs.declared.command.Command.{Command}
+use Rattle.rf_text.specs.declared.command.Command.TheVariants.{Change, Undo, Redo, Report, Free, Quit}
+use Rattle.rf_text.specs.declared.command.UnknownLine.{UnknownLine}
+use Rattle.rf_text.specs.declared.verb.Verb.{Verb}
+use Rattle.rf_text.specs.declared.verb.Verb.TheVariants as verb
+use Rattle.rf_text.specs.Words.{words_of}
+use Rattle.rf_text.specs.Operands.{first, many, one, two, three, ◌>>=◌}
+use Rattle.rf_text.specs.Edits.{edit_by, setup_by}
+use Rattle.rf_text.specs.Commands.{bare, command_by, command_in, command_of, command_with, IsAskable}
+use Rattle.rf_text.specs.Verbs.{verb_of}
+use Rattle.rf_text.proofs.OperandsBack.{name_read, number_read}
+
+abbrev pub IsNamed : List ℕ → Type 0
+IsNamed name = is_name name ≡ true
+
+abbrev pub IsShort : ℕ → Type 0
+IsShort n = n < 10 ^ 9
+
+abbrev pub AreShort : List ℕ → Type 0
+AreShort [] = Unit {0}
+AreShort (n ∷ ns) = IsShort n × AreShort ns
+
+abbrev pub IsSaidEdit : Edit → Type 0
+IsSaidEdit (edit.AddProfile name numbers) = IsNamed name × ((length numbers ≡ 9) × AreShort numbers)
+IsSaidEdit (edit.AddProfiles list) = ⊥
+IsSaidEdit (edit.AddRange name from to step) = IsNamed name × (IsShort from × IsShort to × IsShort step)
+IsSaidEdit (edit.DropProfile name) = IsNamed name
+IsSaidEdit (edit.AddZone name) = IsNamed name
+IsSaidEdit (edit.Couple a b) = IsNamed a × IsNamed b
+IsSaidEdit (edit.Uncouple a b) = IsNamed a × IsNamed b
+IsSaidEdit (edit.AddCarrier name profile zone) = IsNamed name × IsNamed profile × IsNamed zone
+IsSaidEdit (edit.Remove name) = IsNamed name
+IsSaidEdit (edit.AddTime name from to) = IsNamed name × IsShort from × IsShort to
+IsSaidEdit (edit.Always name) = IsNamed name
+IsSaidEdit (edit.SetAt name khz) = IsNamed name × IsShort khz
+IsSaidEdit (edit.Clear name) = IsNamed name
+IsSaidEdit (edit.Lock name) = IsNamed name
+IsSaidEdit (edit.Unlock name) = IsNamed name
+IsSaidEdit (edit.AddBan _ _ _) = ⊥
+IsSaidEdit (edit.Unban _) = ⊥
+IsSaidEdit (edit.AddScan _ _ _ _ _ _) = ⊥
+IsSaidEdit (edit.Unscan _) = ⊥
+IsSaidEdit (edit.Place at) = ⊥
+
+abbrev pub IsSaid : Command → Type 0
+IsSaid (Change edit) = IsSaidEdit edit
+IsSaid Undo = Unit {0}
+IsSaid Redo = Unit {0}
+IsSaid Report = Unit {0}
+IsSaid (Free name) = IsNamed name
+IsSaid Quit = Unit {0}
+
+if_map : {A B : Type 0} (f : A → B) (P : B → Type 0) (o : Option A) → IfSome o (λ x. P (f x)) → IfSome (option_map f o) P
+if_map f P None h = tt
+if_map f P (Some x) h = h
+
+if_then : {A B : Type 0} (next : A → Option B) (P : A → Type 0) (Q : B → Type 0) (o : Option A) → IfSome o P → ((x : A) → P x → IfSome (next x) Q) → IfSome (o >>= next) Q
+if_then next P Q None h k = tt
+if_then next P Q (Some x) h k = k x h
+
+if_any : {A B : Type 0} (next : A → Option B) (Q : B → Type 0) (o : Option A) → ((x : A) → IfSome (next x) Q) → IfSome (option_and_then next o) Q
+if_any next Q None k = tt
+if_any next Q (Some x) k = k x
+
+if_first : {A B : Type 0} (reads : List ℕ → Option A) (others : List (List ℕ) → Option B) (P : A → Type 0) (Q : B → Type 0)
+    → ((word : List ℕ) → IfSome (reads word) P) → ((words : List (List ℕ)) → IfSome (others words) Q)
+    → (words : List (List ℕ)) → IfSome (first reads others words) (λ w. P w.0 × Q w.1)
+if_first reads others P Q p q [] = tt
+if_first reads others P Q p q (word ∷ words) =
+    if_then (λ x. others words >>= (λ y. Some (x, y))) P (λ w. P w.0 × Q w.1) (reads word) (p word)
+    (λ x h. if_then (λ y. Some (x, y)) Q (λ w. P w.0 × Q w.1) (others words) (q words) (λ y k. (h, k)))
+
+if_one : {A : Type 0} (reads : List ℕ → Option A) (P : A → Type 0)
+    → ((word : List ℕ) → IfSome (reads word) P) → (words : List (List ℕ)) → IfSome (one reads words) P
+if_one reads P p [] = tt
+if_one reads P p (word ∷ []) = p word
+if_one reads P p (word ∷ next ∷ words) = tt
+
+if_two : {A B : Type 0} (reads : List ℕ → Option A) (last : List ℕ → Option B) (P : A → Type 0) (Q : B → Type 0)
+    → ((word : List ℕ) → IfSome (reads word) P) → ((word : List ℕ) → IfSome (last word) Q)
+    → (words : List (List ℕ)) → IfSome (two reads last words) (λ w. P w.0 × Q w.1)
+if_two reads last P Q p q words = if_first reads (one last) P Q p (if_one last Q q) words
+
+if_weaker : {A : Type 0} (P Q : A → Type 0) (o : Option A) → ((x : A) → P x → Q x) → IfSome o P → IfSome o Q
+if_weaker P Q None k h = tt
+if_weaker P Q (Some x) k h = k x h
+
+if_three : {A B C : Type 0} (reads : List ℕ → Option A) (next : List ℕ → Option B) (last : List ℕ → Option C) (P : A → Type 0) (Q : B → Type 0) (R : C → Type 0)
+    → ((word : List ℕ) → IfSome (reads word) P) → ((word : List ℕ) → IfSome (next word) Q) → ((word : List ℕ) → IfSome (last word) R)
+    → (words : List (List ℕ)) → IfSome (three reads next last words) (λ w. P w.0 × Q w.1 × R w.2)
+if_three {A} {B} {C} reads next last P Q R p q r words =
+    if_map (λ (w : A × (B × C)). (w.0, w.1.0, w.1.1)) (λ w. P w.0 × Q w.1 × R w.2) (first reads (two next last) words)
+    (if_weaker (λ w. P w.0 × (Q w.1.0 × R w.1.1)) (λ w. P w.0 × Q w.1.0 × R w.1.1) (first reads (two next last) words) (λ w h. (h.0, h.1.0, h.1.1))
+    (if_first reads (two next last) P (λ w. Q w.0 × R w.1) p (if_two next last Q R q r) words))
+
+numbers_said : (count : ℕ) (words : List (List ℕ)) → IfSome (many count number_of words) (λ ns. (length ns ≡ count) × AreShort ns)
+unfolding many
+numbers_said zero [] = (refl, tt)
+numbers_said zero (word ∷ words) = tt
+numbers_said (suc count) words =
+    if_map (λ w. w.0 ∷ w.1) (λ ns. (length ns ≡ suc count) × AreShort ns) (first number_of (many count number_of) words)
+    (if_weaker (λ w. IsShort w.0 × ((length w.1 ≡ count) × AreShort w.1)) (λ w. (suc (length w.1) ≡ suc count) × (IsShort w.0 × AreShort w.1)) (first number_of (many count number_of) words)
+    (λ w h. (ap suc h.1.0, (h.0, h.1.1)))
+    (if_first number_of (many count number_of) IsShort (λ ns. (length ns ≡ count) × AreShort ns) number_read (numbers_said count) words))
+
+one_name : (words : List (List ℕ)) → IfSome (one name_of words) IsNamed
+one_name = if_one name_of IsNamed name_read
+
+two_names : (words : List (List ℕ)) → IfSome (two name_of name_of words) (λ w. IsNamed w.0 × IsNamed w.1)
+two_names = if_two name_of name_of IsNamed IsNamed name_read name_read
+
+setup_said : (v : Verb) (words : List (List ℕ)) → IfSome (setup_by v words) IsSaidEdit
+unfolding setup_by
+setup_said verb.Profile words = if_map (λ w. edit.AddProfile w.0 w.1) IsSaidEdit _ (if_first name_of (many 9 number_of) IsNamed (λ ns. (length ns ≡ 9) × AreShort ns) name_read (numbers_said 9) words)
+setup_said verb.Range words = if_map (λ w. edit.AddRange w.0 w.1.0 w.1.1 w.1.2) IsSaidEdit _
+    (if_first name_of (three number_of number_of number_of) IsNamed (λ w. IsShort w.0 × IsShort w.1 × IsShort w.2) name_read
+    (if_three number_of number_of number_of IsShort IsShort IsShort number_read number_read number_read) words)
+setup_said verb.DropProfile words = if_map (λ name. edit.DropProfile name) IsSaidEdit _ (one_name words)
+setup_said verb.Zone words = if_map (λ name. edit.AddZone name) IsSaidEdit _ (one_name words)
+setup_said verb.Couple words = if_map (λ w. edit.Couple w.0 w.1) IsSaidEdit _ (two_names words)
+setup_said verb.Uncouple words = if_map (λ w. edit.Uncouple w.0 w.1) IsSaidEdit _ (two_names words)
+setup_said _ words = tt
+
+edit_said : (v : Verb) (words : List (List ℕ)) → IfSome (edit_by v words) IsSaidEdit
+unfolding edit_by
+edit_said verb.Carrier words = if_map (λ w. edit.AddCarrier w.0 w.1 w.2) IsSaidEdit _ (if_three name_of name_of name_of IsNamed IsNamed IsNamed name_read name_read name_read words)
+edit_said verb.Remove words = if_map (λ name. edit.Remove name) IsSaidEdit _ (one_name words)
+edit_said verb.Time words = if_map (λ w. edit.AddTime w.0 w.1 w.2) IsSaidEdit _ (if_three name_of number_of number_of IsNamed IsShort IsShort name_read number_read number_read words)
+edit_said verb.Always words = if_map (λ name. edit.Always name) IsSaidEdit _ (one_name words)
+edit_said verb.Set words = if_map (λ w. edit.SetAt w.0 w.1) IsSaidEdit _ (if_two name_of number_of IsNamed IsShort name_read number_read words)
+edit_said verb.Clear words = if_map (λ name. edit.Clear name) IsSaidEdit _ (one_name words)
+edit_said verb.Lock words = if_map (λ name. edit.Lock name) IsSaidEdit _ (one_name words)
+edit_said verb.Unlock words = if_map (λ name. edit.Unlock name) IsSaidEdit _ (one_name words)
+edit_said v words = setup_said v words
+
+bare_said : (command : Command) → IsSaid command → (words : List (List ℕ)) → IfSome (bare command words) IsSaid
+bare_said command h [] = h
+bare_said command h (word ∷ words) = tt
+
+command_said : (v : Verb) (words : List (List ℕ)) → IfSome (command_by v words) IsSaid
+unfolding command_by
+command_said verb.Undo words = bare_said Undo tt words
+command_said verb.Redo words = bare_said Redo tt words
+command_said verb.Report words = bare_said Report tt words
+command_said verb.Free words = if_map (λ name. Free name) IsSaid _ (one_name words)
+command_said verb.Quit words = bare_said Quit tt words
+command_said v words = if_map Change IsSaid (edit_by v words) (edit_said v words)
+
+with_said : (words : List (List ℕ)) → IfSome (command_with words) IsSaid
+with_said [] = tt
+with_said (word ∷ operands) = if_any (λ v. command_by v operands) IsSaid (verb_of word) (λ v. command_said v operands)
+
+from_ok : (o : Option Command) (e : UnknownLine) (command : Command) → IfSome o IsSaid → ok_or o e ≡ Ok command → IsSaid command
+from_ok None e command h is = cc
+from_ok (Some c) e command h is = let same : c ≡ command = cc in subst IsSaid same h
+
+-- what a line says
+pub line_said : (line : List ℕ) (command : Command) → command_of line ≡ Ok command → IsSaid command
+unfolding command_of
+line_said line command is = from_ok (command_in line) _ command (if_any command_with IsSaid (words_of line) with_said) is
+
+edit_askable : (e : Edit) → IsSaidEdit e → IsTrue (is_edit e)
+edit_askable (edit.AddProfiles list) h = absurd h
+edit_askable _ h = refl
+
+said_askable : (command : Command) → IsSaid command → IsAskable command
+said_askable (Change e) h = edit_askable e h
+said_askable _ h = tt
+
+-- what a line says can be asked of a show
+pub line_askable : (line : List ℕ) (command : Command) → Some command ≡ command_in line → IsAskable command
+line_askable line command is = said_askable command (let all : IfSome (command_in line) IsSaid = if_any command_with IsSaid (words_of line) with_said in rw (← is) at all)

@@ -1,0 +1,9 @@
+pub mod CommandsBack
+pub mod CommandsSaid
+pub mod LineLemmas
+pub mod NameLemmas
+pub mod OperandLemmas
+pub mod OperandsBack
+pub mod RunLemmas
+pub mod WordLemmas
+pub mod WordsBack

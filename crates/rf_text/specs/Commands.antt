@@ -1,0 +1,43 @@
+-- The command that a line writes.
+use Rattle.std.specs.Prelude.{ℕ, List, [], ◌∷◌, Option, Some, None, Result, if◌then◌else◌, option_map, option_and_then, ok_or, IsTrue}
+use Rattle.rf_base.specs.Name.{name_of}
+use Rattle.rf_show.specs.After.{is_edit}
+use Rattle.rf_text.specs.declared.command.Command.{Command}
+use Rattle.rf_text.specs.declared.command.Command.TheVariants.{Change, Undo, Redo, Report, Free, Quit}
+use Rattle.rf_text.specs.declared.command.UnknownLine.{UnknownLine}
+use Rattle.rf_text.specs.declared.verb.Verb.{Verb}
+use Rattle.rf_text.specs.declared.verb.Verb.TheVariants as verb
+use Rattle.rf_text.specs.Words.{words_of, is_empty}
+use Rattle.rf_text.specs.Operands.{one}
+use Rattle.rf_text.specs.Edits.{edit_by}
+use Rattle.rf_text.specs.Verbs.{verb_of}
+
+-- a command without operands
+abbrev pub bare : Command → List (List ℕ) → Option Command
+bare command words = if is_empty words then Some command else None
+
+-- the command that a first word and the operands after it write
+unfoldable pub command_by : Verb → List (List ℕ) → Option Command
+command_by verb.Undo words = bare Undo words
+command_by verb.Redo words = bare Redo words
+command_by verb.Report words = bare Report words
+command_by verb.Free words = option_map (λ name. Free name) (one name_of words)
+command_by verb.Quit words = bare Quit words
+command_by verb words = option_map Change (edit_by verb words)
+
+-- the command that the words of a line write
+abbrev pub command_with : List (List ℕ) → Option Command
+command_with [] = None
+command_with (word ∷ operands) = option_and_then (λ verb. command_by verb operands) (verb_of word)
+
+abbrev pub command_in : List ℕ → Option Command
+command_in line = option_and_then command_with (words_of line)
+
+-- the command that a line writes, or that it is in no command's grammar
+unfoldable pub command_of : List ℕ → Result Command UnknownLine
+command_of line = ok_or (command_in line) (record {})
+
+-- its edit is one that a show can be asked for
+abbrev pub IsAskable : Command → Type 0
+IsAskable (Change edit) = IsTrue (is_edit edit)
+IsAskable _ = Unit {0}

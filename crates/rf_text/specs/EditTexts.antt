@@ -1,0 +1,34 @@
+-- How an edit is written.
+use Rattle.std.specs.Prelude.{ℕ, List, [], ◌∷◌, map, decimal}
+use Rattle.rf_show.specs.declared.edit.Edit.{Edit}
+use Rattle.rf_show.specs.declared.edit.Edit.TheVariants as edit
+use Rattle.rf_text.specs.declared.verb.Verb.TheVariants as verb
+use Rattle.rf_text.specs.Lines.{joined}
+use Rattle.rf_text.specs.Verbs.{text_of}
+
+-- the words of an edit; none where no line has it
+abbrev pub edit_words : Edit → List (List ℕ)
+edit_words (edit.AddProfile name numbers) = text_of verb.Profile ∷ name ∷ map decimal numbers
+edit_words (edit.AddProfiles list) = []
+edit_words (edit.AddRange name from to step) = text_of verb.Range ∷ name ∷ decimal from ∷ decimal to ∷ decimal step ∷ []
+edit_words (edit.DropProfile name) = text_of verb.DropProfile ∷ name ∷ []
+edit_words (edit.AddZone name) = text_of verb.Zone ∷ name ∷ []
+edit_words (edit.Couple a b) = text_of verb.Couple ∷ a ∷ b ∷ []
+edit_words (edit.Uncouple a b) = text_of verb.Uncouple ∷ a ∷ b ∷ []
+edit_words (edit.AddCarrier name profile zone) = text_of verb.Carrier ∷ name ∷ profile ∷ zone ∷ []
+edit_words (edit.Remove name) = text_of verb.Remove ∷ name ∷ []
+edit_words (edit.AddTime name from to) = text_of verb.Time ∷ name ∷ decimal from ∷ decimal to ∷ []
+edit_words (edit.Always name) = text_of verb.Always ∷ name ∷ []
+edit_words (edit.SetAt name khz) = text_of verb.Set ∷ name ∷ decimal khz ∷ []
+edit_words (edit.Clear name) = text_of verb.Clear ∷ name ∷ []
+edit_words (edit.Lock name) = text_of verb.Lock ∷ name ∷ []
+edit_words (edit.Unlock name) = text_of verb.Unlock ∷ name ∷ []
+edit_words (edit.AddBan _ _ _) = []
+edit_words (edit.Unban _) = []
+edit_words (edit.AddScan _ _ _ _ _ _) = []
+edit_words (edit.Unscan _) = []
+edit_words (edit.Place at) = []
+
+-- the line of an edit, without its line feed
+unfoldable pub edit_text : Edit → List ℕ
+edit_text edit = joined (edit_words edit)

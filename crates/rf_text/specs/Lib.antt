@@ -1,0 +1,10 @@
+pub mod CommandTexts
+pub mod Commands
+pub mod EditTexts
+pub mod Edits
+pub mod Free
+pub mod Lines
+pub mod Operands
+pub mod Reports
+pub mod Verbs
+pub mod Words

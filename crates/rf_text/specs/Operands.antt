@@ -1,0 +1,29 @@
+-- How the operands of a line are read.
+use Rattle.std.specs.Prelude.{ℕ, zero, suc, List, [], ◌∷◌, Option, Some, None, option_map, option_and_then, if◌then◌else◌}
+use Rattle.rf_text.specs.Words.{is_empty, only}
+
+infixl 10 ◌>>=◌
+abbrev pub ◌>>=◌ : {A B : Type 0} → Option A → (A → Option B) → Option B
+read >>= next = option_and_then next read
+
+-- the first operand, and what the others are
+abbrev pub first : {A B : Type 0} → (List ℕ → Option A) → (List (List ℕ) → Option B) → List (List ℕ) → Option (A × B)
+first reads others [] = None
+first reads others (word ∷ words) = do
+  operand ← reads word
+  more ← others words
+  Some (operand, more)
+
+abbrev pub one : {A : Type 0} → (List ℕ → Option A) → List (List ℕ) → Option A
+one reads words = only words >>= reads
+
+abbrev pub two : {A B : Type 0} → (List ℕ → Option A) → (List ℕ → Option B) → List (List ℕ) → Option (A × B)
+two reads last words = first reads (one last) words
+
+abbrev pub three : {A B C : Type 0} → (List ℕ → Option A) → (List ℕ → Option B) → (List ℕ → Option C) → List (List ℕ) → Option (A × B × C)
+three reads next last words = option_map (λ w. (w.0, w.1.0, w.1.1)) (first reads (two next last) words)
+
+-- so many operands
+unfoldable pub many : {A : Type 0} → ℕ → (List ℕ → Option A) → List (List ℕ) → Option (List A)
+many zero reads words = if is_empty words then Some [] else None
+many (suc count) reads words = option_map (λ w. w.0 ∷ w.1) (first reads (many count reads) words)

@@ -1,0 +1,36 @@
+-- The first words of command lines.
+use Rattle.std.specs.Prelude.{ℕ, List, [], ◌∷◌, Option, codes, find}
+use Rattle.std.specs.Str.{bytes_eq}
+use Rattle.rf_text.specs.declared.verb.Verb.{Verb}
+use Rattle.rf_text.specs.declared.verb.Verb.TheVariants as verb
+
+abbrev pub verbs : List Verb
+verbs = verb.Profile ∷ verb.Range ∷ verb.DropProfile ∷ verb.Zone ∷ verb.Couple ∷ verb.Uncouple ∷ verb.Carrier ∷ verb.Remove
+    ∷ verb.Time ∷ verb.Always ∷ verb.Set ∷ verb.Clear ∷ verb.Lock ∷ verb.Unlock ∷ verb.Undo ∷ verb.Redo
+    ∷ verb.Report ∷ verb.Free ∷ verb.Quit ∷ []
+
+-- how a verb is written
+abbrev pub text_of : Verb → List ℕ
+text_of verb.Profile = codes "profile"
+text_of verb.Range = codes "range"
+text_of verb.DropProfile = codes "drop-profile"
+text_of verb.Zone = codes "zone"
+text_of verb.Couple = codes "couple"
+text_of verb.Uncouple = codes "uncouple"
+text_of verb.Carrier = codes "carrier"
+text_of verb.Remove = codes "remove"
+text_of verb.Time = codes "time"
+text_of verb.Always = codes "always"
+text_of verb.Set = codes "set"
+text_of verb.Clear = codes "clear"
+text_of verb.Lock = codes "lock"
+text_of verb.Unlock = codes "unlock"
+text_of verb.Undo = codes "undo"
+text_of verb.Redo = codes "redo"
+text_of verb.Report = codes "report"
+text_of verb.Free = codes "free"
+text_of verb.Quit = codes "quit"
+
+-- the verb that a word writes
+unfoldable pub verb_of : List ℕ → Option Verb
+verb_of word = find (λ verb. bytes_eq word (text_of verb)) verbs

@@ -1,0 +1,107 @@
+ghost use Rattle.std.specs.Prelude.{◌≡◌, ◌++◌, ◌∷◌, [], OnOk, map, decimal, string_bytes};
+ghost use Rattle.rf_text.specs.Lines.{joined, spaced};
+ghost use Rattle.rf_text.specs.EditTexts as spec;
+ghost use Rattle.rf_text.specs.Verbs.{text_of};
+
+use crate::line::name_text;
+use crate::verb::Verb;
+use rf_base::{Name, NoMemory};
+use rf_show::Edit;
+
+/// Writes the line of an edit, without a line feed; nothing where no line has it.
+#[tactic(auto, using(crate::proofs::LineLemmas::pieces), unfolding(crate::specs::EditTexts::edit_text))]
+pub(crate) fn write_edit(text: &mut String, edit: &Edit) -> Result<(), NoMemory>
+    ensures { OnOk result (string_bytes text.new ≡ string_bytes text.old ++ spec.edit_text edit.now) }
+{
+    match edit {
+        Edit::AddProfile { name, numbers } => {
+            write_named(text, Verb::Profile, name)?;
+            write_numbers(text, numbers.as_slice())
+        }
+        Edit::AddRange {
+            name,
+            from,
+            to,
+            step,
+        } => {
+            write_named(text, Verb::Range, name)?;
+            write_numbers(text, &[*from, *to, *step])
+        }
+        Edit::DropProfile { name } => write_named(text, Verb::DropProfile, name),
+        Edit::AddZone { name } => write_named(text, Verb::Zone, name),
+        Edit::Couple { a, b } => {
+            write_named(text, Verb::Couple, a)?;
+            write_name(text, b)
+        }
+        Edit::Uncouple { a, b } => {
+            write_named(text, Verb::Uncouple, a)?;
+            write_name(text, b)
+        }
+        Edit::AddCarrier {
+            name,
+            profile,
+            zone,
+        } => {
+            write_named(text, Verb::Carrier, name)?;
+            write_name(text, profile)?;
+            write_name(text, zone)
+        }
+        Edit::Remove { name } => write_named(text, Verb::Remove, name),
+        Edit::AddTime { name, from, to } => {
+            write_named(text, Verb::Time, name)?;
+            write_numbers(text, &[*from, *to])
+        }
+        Edit::Always { name } => write_named(text, Verb::Always, name),
+        Edit::SetAt { name, khz } => {
+            write_named(text, Verb::Set, name)?;
+            write_numbers(text, &[*khz])
+        }
+        Edit::Clear { name } => write_named(text, Verb::Clear, name),
+        Edit::Lock { name } => write_named(text, Verb::Lock, name),
+        Edit::Unlock { name } => write_named(text, Verb::Unlock, name),
+        Edit::AddProfiles { .. }
+        | Edit::AddBan { .. }
+        | Edit::Unban { .. }
+        | Edit::AddScan { .. }
+        | Edit::Unscan { .. }
+        | Edit::Place { .. } => Ok(()),
+    }
+}
+
+/// Writes a verb.
+pub(crate) fn write_verb(text: &mut String, verb: Verb) -> Result<(), NoMemory>
+    ensures { OnOk result (string_bytes text.new ≡ string_bytes text.old ++ joined (text_of verb ∷ [])) }
+{
+    let verb = verb.text();
+    write!(text, "{verb}")?;
+    Ok(())
+}
+
+/// Writes a verb and a name.
+pub(crate) fn write_named(text: &mut String, verb: Verb, name: &Name) -> Result<(), NoMemory>
+    ensures { OnOk result (string_bytes text.new ≡ string_bytes text.old ++ joined (text_of verb ∷ name.now ∷ [])) }
+{
+    let verb = verb.text();
+    let name = name_text(name);
+    write!(text, "{verb} {name}")?;
+    Ok(())
+}
+
+// Writes a space and a name.
+fn write_name(text: &mut String, name: &Name) -> Result<(), NoMemory>
+    ensures { OnOk result (string_bytes text.new ≡ string_bytes text.old ++ spaced (name.now ∷ [])) }
+{
+    let name = name_text(name);
+    write!(text, " {name}")?;
+    Ok(())
+}
+
+/// Writes numbers, each after a space.
+pub(crate) fn write_numbers(text: &mut String, numbers: &[u32]) -> Result<(), NoMemory>
+    ensures { OnOk result (string_bytes text.new ≡ string_bytes text.old ++ spaced (map decimal numbers.now)) }
+{
+    for number in numbers {
+        write!(text, " {number}")?;
+    }
+    Ok(())
+}

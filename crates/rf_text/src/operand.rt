@@ -1,0 +1,71 @@
+ghost use Rattle.std.specs.Prelude.{◌≡◌, ℕ, List};
+ghost use Rattle.std.specs.declared.option.Option.{Option};
+ghost use Rattle.rf_base.specs.Name.{name_of};
+ghost use Rattle.rf_base.specs.Decimal.{number_of};
+ghost use Rattle.rf_text.specs.Operands as spec;
+
+use crate::words::Words;
+use rf_base::{Name, read_number};
+
+/// What a word of a line is read as.
+pub(crate) trait Operand: Copy {
+    /// What a word is.
+    ghost reads: { List ℕ → Option Self };
+
+    /// What the word is, or None where it is outside the grammar.
+    fn read(word: &[u8]) -> Option<Self>
+        ensures { result ≡ reads word.now };
+}
+
+impl Operand for Name {
+    ghost reads = { name_of };
+
+    fn read(word: &[u8]) -> Option<Name> {
+        Name::read(word)
+    }
+}
+
+impl Operand for u32 {
+    ghost reads = { number_of };
+
+    fn read(word: &[u8]) -> Option<u32> {
+        read_number(word)
+    }
+}
+
+/// One operand.
+pub(crate) fn one<A: Operand>(words: Words<'_>) -> Option<A>
+    ensures { result ≡ spec.one A.reads words.entry }
+{
+    A::read(words.only()?)
+}
+
+/// Two operands.
+pub(crate) fn two<A: Operand, B: Operand>(mut words: Words<'_>) -> Option<(A, B)>
+    ensures { result ≡ spec.two A.reads B.reads words.entry }
+{
+    let first = A::read(words.next()?)?;
+    let second = one(words)?;
+    Some((first, second))
+}
+
+/// Three operands.
+pub(crate) fn three<A: Operand, B: Operand, C: Operand>(mut words: Words<'_>) -> Option<(A, B, C)>
+    ensures { result ≡ spec.three A.reads B.reads C.reads words.entry }
+{
+    let first = A::read(words.next()?)?;
+    let (second, third) = two(words)?;
+    Some((first, second, third))
+}
+
+/// As many numbers as a profile has after its name.
+pub(crate) fn numbers(mut words: Words<'_>) -> Option<[u32; 9]>
+    ensures { result ≡ spec.many 9 number_of words.entry }
+{
+    let mut numbers = [0; 9];
+    for number in numbers.iter_mut() {
+        let value = u32::read(words.next()?)?;
+        *number = value;
+    }
+    words.is_empty().then_some(numbers)
+}

@@ -1,0 +1,88 @@
+ghost use Rattle.std.specs.Prelude.{◌≡◌};
+ghost use Rattle.rf_text.specs.Verbs as spec;
+
+/// The first word of a command line.
+#[derive(Clone, Copy, PartialEq, Eq, Debug)]
+pub(crate) enum Verb {
+    Profile,
+    Range,
+    DropProfile,
+    Zone,
+    Couple,
+    Uncouple,
+    Carrier,
+    Remove,
+    Time,
+    Always,
+    Set,
+    Clear,
+    Lock,
+    Unlock,
+    Undo,
+    Redo,
+    Report,
+    Free,
+    Quit,
+}
+
+static VERBS: [Verb; 19] = [
+    Verb::Profile,
+    Verb::Range,
+    Verb::DropProfile,
+    Verb::Zone,
+    Verb::Couple,
+    Verb::Uncouple,
+    Verb::Carrier,
+    Verb::Remove,
+    Verb::Time,
+    Verb::Always,
+    Verb::Set,
+    Verb::Clear,
+    Verb::Lock,
+    Verb::Unlock,
+    Verb::Undo,
+    Verb::Redo,
+    Verb::Report,
+    Verb::Free,
+    Verb::Quit,
+];
+
+impl Verb {
+    /// How the verb is written.
+    pub(crate) fn text(self) -> &'static str
+        ensures { result.now ≡ spec.text_of self }
+    {
+        match self {
+            Verb::Profile => "profile",
+            Verb::Range => "range",
+            Verb::DropProfile => "drop-profile",
+            Verb::Zone => "zone",
+            Verb::Couple => "couple",
+            Verb::Uncouple => "uncouple",
+            Verb::Carrier => "carrier",
+            Verb::Remove => "remove",
+            Verb::Time => "time",
+            Verb::Always => "always",
+            Verb::Set => "set",
+            Verb::Clear => "clear",
+            Verb::Lock => "lock",
+            Verb::Unlock => "unlock",
+            Verb::Undo => "undo",
+            Verb::Redo => "redo",
+            Verb::Report => "report",
+            Verb::Free => "free",
+            Verb::Quit => "quit",
+        }
+    }
+
+    /// The verb that a word writes.
+    #[tactic(auto, unfolding(crate::specs::Verbs::verb_of))]
+    pub(crate) fn read(word: &[u8]) -> Option<Verb>
+        ensures { result ≡ spec.verb_of word.now }
+    {
+        VERBS
+            .iter()
+            .copied()
+            .find(|verb| word == verb.text().as_bytes())
+    }
+}
