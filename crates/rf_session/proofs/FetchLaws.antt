@@ -1,0 +1,52 @@
+-- What the shelf brought, one time after another.
+use Rattle.std.proofs.Common.{◌≡◌, ◌≤◌, ◌+◌, ◌-◌, ◌^◌, min, ◌||◌, ℕ, Bool, true, false, List, [], ◌∷◌, ◌++◌, count_by, refl, sym, ◌∙◌, subst, arith, cond}
+use Rattle.std.specs.List.{list_any}
+use Rattle.std.proofs.lemmas.List.Elements.{All-nil, All-cons, All-append}
+use Rattle.std.proofs.lemmas.List.Folds.{list_any-append}
+use Rattle.std.proofs.lemmas.List.Sums.{sum_by-append}
+use Rattle.std.specs.declared.option.Option.{Option}
+use Rattle.rf_session.specs.Fetches.{Fetched, absent, of_file, Outside, MayCome, MayBring, asks_for, Brought, KeptCounts}
+
+pub count_by-append : {X : Type 0} (p : X → Bool) (xs ys : List X) → count_by p (xs ++ ys) ≡ count_by p xs + count_by p ys
+count_by-append p xs ys = sum_by-append (λ x. cond (p x) 1 0) xs ys
+
+-- a shelf that tells the same brings the same
+pub MayBring-same : (before mid : List ℕ → Option (Option (List ℕ))) → ((name : List ℕ) → mid name ≡ before name) →
+    (fetched : Fetched) → MayBring mid fetched → MayBring before fetched
+MayBring-same before mid same absent may = tt
+MayBring-same before mid same (of_file name got) may =
+    let P : Option (Option (List ℕ)) → Type 0 = λ told. MayCome told got in subst P (same name) may
+
+-- the counts of faults, one time after another
+pub bound_then : (before mid after : ℕ) (n k : ℕ) → min (before + n) (2 ^ 64 - 1) ≤ mid → min (mid + k) (2 ^ 64 - 1) ≤ after →
+    min (before + (n + k)) (2 ^ 64 - 1) ≤ after
+bound_then before mid after n k first second = omega arith
+
+pub Brought-then : (before mid after : Outside) (fs gs : List Fetched) → Brought before mid fs → Brought mid after gs → Brought before after (fs ++ gs)
+Brought-then before mid after fs gs first second = record {
+  told = All-append (MayBring before.file) fs gs first.told
+      (λ k d low. MayBring-same before.file mid.file first.same _ (second.told k d low));
+  bound = λ name. rw count_by-append (bound_then (before.faults name) (mid.faults name) (after.faults name) _ _ (first.bound name) (second.bound name));
+  same = λ name. second.same name ∙ first.same name;
+}
+
+pub Brought-none : (o : Outside) → Brought o o []
+Brought-none o = record { told = All-nil (MayBring o.file); bound = λ name. omega arith; same = λ name. refl }
+
+either_false : (a b : Bool) → (a || b) ≡ false → (a ≡ false) × (b ≡ false)
+either_false true b h = absurd cc
+either_false false b h = (refl, h)
+
+pub KeptCounts-then : (before mid after : Outside) (fs gs : List Fetched) → KeptCounts before mid fs → KeptCounts mid after gs → KeptCounts before after (fs ++ gs)
+KeptCounts-then before mid after fs gs first second = λ name none.
+    let both = either_false (list_any (asks_for name) fs) (list_any (asks_for name) gs) (sym (list_any-append (asks_for name) fs gs) ∙ none) in
+    second name both.1 ∙ first name both.0
+
+-- a line that names no file
+pub Brought-absent : (before after : Outside) → ((name : List ℕ) → after.file name ≡ before.file name) →
+    ((name : List ℕ) → after.faults name ≡ before.faults name) → Brought before after (absent ∷ [])
+Brought-absent before after files counts = record {
+  told = All-cons (MayBring before.file) absent [] tt (All-nil (MayBring before.file));
+  bound = λ name. let same : after.faults name ≡ before.faults name = counts name in omega arith;
+  same = files;
+}

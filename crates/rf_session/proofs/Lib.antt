@@ -1,0 +1,5 @@
+pub mod FetchLaws
+pub mod Follows
+pub mod Runs
+pub mod Serving
+pub mod Starting

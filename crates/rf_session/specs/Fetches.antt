@@ -1,0 +1,76 @@
+-- What lines fetch from the shelf.
+use Rattle.std.specs.Prelude.{◌≡◌, ◌≤◌, ◌<◌, ◌+◌, ◌-◌, ◌^◌, min, ℕ, Bool, false, List, length, count_by, All, Some, None}
+use Rattle.std.specs.List.{list_any}
+use Rattle.std.specs.Str.{bytes_eq}
+use Rattle.std.specs.declared.option.Option.{Option}
+use Rattle.rf_session.specs.declared.file.File.{File}
+use Rattle.rf_session.specs.declared.file.File.TheVariants.{Found, TooLarge, Fault}
+
+-- What came of a file: its bytes, that it is too large, or a fault.
+pub data Got : Type 0 where
+  found : List ℕ → Got
+  too_large : Got
+  fault : Got
+
+-- The fetch of a line: the line names no file, or the file of this name, and this came of it.
+pub data Fetched : Type 0 where
+  absent : Fetched
+  of_file : List ℕ → Got → Fetched
+
+-- What a machine meets: the bytes that its sink holds, what its shelf tells of each name, and how often each name failed.
+pub record Outside : Type 0 where
+  pub written : Option (List ℕ)
+  pub file : List ℕ → Option (Option (List ℕ))
+  pub faults : List ℕ → ℕ
+
+abbrev pub outside : Option (List ℕ) → (List ℕ → Option (Option (List ℕ))) → (List ℕ → ℕ) → Outside
+outside written file faults = record { written = written; file = file; faults = faults }
+
+-- the largest file that a line may name
+abbrev pub file_limit : ℕ
+file_limit = 16_777_216
+
+-- what may come of a file of which the shelf tells this: always a fault; otherwise its bytes, or that they are too many
+abbrev pub MayCome : Option (Option (List ℕ)) → Got → Type 0
+MayCome None (found bytes) = length bytes ≤ file_limit
+MayCome None too_large = Unit {0}
+MayCome None fault = Unit {0}
+MayCome (Some None) (found bytes) = ⊥
+MayCome (Some None) too_large = ⊥
+MayCome (Some None) fault = Unit {0}
+MayCome (Some (Some held)) (found bytes) = (bytes ≡ held) × (length held ≤ file_limit)
+MayCome (Some (Some held)) too_large = file_limit < length held
+MayCome (Some (Some held)) fault = Unit {0}
+
+abbrev pub MayBring : (List ℕ → Option (Option (List ℕ))) → Fetched → Type 0
+MayBring file absent = Unit {0}
+MayBring file (of_file name got) = MayCome (file name) got
+
+-- a fetch of this file
+abbrev pub asks_for : List ℕ → Fetched → Bool
+asks_for name absent = false
+asks_for name (of_file other got) = bytes_eq other name
+
+-- a fetch of this file that was a fault
+abbrev pub fails_at : List ℕ → Fetched → Bool
+fails_at name absent = false
+fails_at name (of_file other (found bytes)) = false
+fails_at name (of_file other too_large) = false
+fails_at name (of_file other fault) = bytes_eq other name
+
+-- The shelf brought these: each is a fault or what the shelf tells of the file, no file had more faults among them than its
+-- count rose by (a count may stand at its type's end), and the shelf goes on telling the same.
+pub record Brought (before after : Outside) (fetches : List Fetched) : Type 0 where
+  pub told : All (MayBring before.file) fetches
+  pub bound : (name : List ℕ) → min (before.faults name + count_by (fails_at name) fetches) (2 ^ 64 - 1) ≤ after.faults name
+  pub same : (name : List ℕ) → after.file name ≡ before.file name
+
+-- the count of a file for which nothing asked stayed as it was
+abbrev pub KeptCounts : Outside → Outside → List Fetched → Type 0
+KeptCounts before after fetches = (name : List ℕ) → list_any (asks_for name) fetches ≡ false → after.faults name ≡ before.faults name
+
+-- what came of a file
+abbrev pub got_of : File → Got
+got_of (Found bytes) = found bytes.items
+got_of TooLarge = too_large
+got_of Fault = fault

@@ -1,0 +1,15 @@
+//! Sessions: lines are read, answered by a machine, and the replies are written.
+#![tactic(auto)]
+
+mod file;
+mod machine;
+mod reply;
+mod session;
+mod show_machine;
+mod top;
+mod words;
+
+pub use top::run;
+
+#[cfg(test)]
+mod tests;

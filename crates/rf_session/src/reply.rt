@@ -1,0 +1,118 @@
+//! Replies, and how they are written.
+
+ghost use Rattle.std.specs.Prelude.{◌≡◌, ◌≤◌, IfOk, OnErr, Err};
+ghost use Rattle.std.specs.Io.KnownBytes.{Appends};
+ghost use Rattle.rf_base.specs.Cause.{Rose};
+ghost use Rattle.rf_base.specs.Piece.{AppendsPrefix};
+ghost use Rattle.rf_session.specs.Reply as spec;
+
+use crate::machine::Stop;
+use rf_base::{Failed, Items, Sink, put};
+use rf_show::Refusal;
+
+/// Why a line is refused.
+#[derive(Clone, Copy, Debug, PartialEq, Eq)]
+pub enum Code {
+    /// E1: the line is in no command's grammar.
+    UnknownLine,
+    /// E2: a profile, zone or carrier that is named is not there.
+    Unknown,
+    /// E3: the new name is there already.
+    Taken,
+    /// E4: a number is out of its range.
+    Number,
+    /// E5: a carrier has the profile.
+    InUse,
+    /// E6: there is no earlier, or no later, show.
+    NoStep,
+    /// E7: the carrier has no frequency.
+    NoFrequency,
+    /// E8: the carrier is locked.
+    Locked,
+    /// E9: there are as many as there may be.
+    Full,
+    /// E12: the line is longer than a line may be.
+    LongLine,
+}
+
+impl Code {
+    /// The reply line of the refusal.
+    pub fn text(self) -> &'static [u8]
+        ensures { result.now ≡ spec.refusal_text self }
+    {
+        match self {
+            Code::UnknownLine => b"error E1\n",
+            Code::Unknown => b"error E2\n",
+            Code::Taken => b"error E3\n",
+            Code::Number => b"error E4\n",
+            Code::InUse => b"error E5\n",
+            Code::NoStep => b"error E6\n",
+            Code::NoFrequency => b"error E7\n",
+            Code::Locked => b"error E8\n",
+            Code::Full => b"error E9\n",
+            Code::LongLine => b"error E12\n",
+        }
+    }
+}
+
+impl From<Refusal> for Code {
+    fn from(refusal: Refusal) -> Code
+        ensures { result ≡ spec.code_of refusal }
+    {
+        match refusal {
+            Refusal::Unknown => Code::Unknown,
+            Refusal::Taken => Code::Taken,
+            Refusal::Number => Code::Number,
+            Refusal::InUse => Code::InUse,
+            Refusal::NoFrequency => Code::NoFrequency,
+            Refusal::Locked => Code::Locked,
+            Refusal::Full => Code::Full,
+        }
+    }
+}
+
+/// What a line is answered.
+#[derive(Debug, Drop)]
+pub enum Reply {
+    /// It is done: `ok`.
+    Accepted,
+    /// It asks for this text.
+    Text(Items<u8>),
+    /// It is refused, and the machine is as before.
+    Error(Code),
+}
+
+impl Reply {
+    /// The bytes of the reply.
+    pub fn text(&self) -> &[u8]
+        ensures { result.now ≡ spec.text_of self.now }
+    {
+        match self {
+            Reply::Accepted => b"ok\n",
+            Reply::Text(text) => text.as_slice(),
+            Reply::Error(code) => code.text(),
+        }
+    }
+
+    /// Whether the line is refused.
+    pub fn is_refusal(&self) -> bool
+        ensures { result ≡ spec.is_refusal self.now }
+    {
+        matches!(self, Reply::Error(_))
+    }
+}
+
+/// Writes a reply, and answers whether it is a refusal.
+pub(crate) fn say<O: Sink>(output: &mut O, reply: &Reply) -> Result<bool, Stop>
+    ensures whole { IfOk result (λ refusal. Appends (O.contents output.old) (O.contents output.new) (spec.text_of reply.now)) }
+    ensures refuses { IfOk result (λ refusal. refusal ≡ spec.is_refusal reply.now) }
+    ensures part { OnErr result (AppendsPrefix (O.contents output.old) (O.contents output.new) (spec.text_of reply.now)) }
+    ensures only { OnErr result (result ≡ Err Stop.Write) }
+    ensures later { O.faults output.old ≤ O.faults output.new }
+    ensures fault { OnErr result (Rose (O.faults output.old) (O.faults output.new)) }
+{
+    match put(output, reply.text()) {
+        Ok(()) => Ok(reply.is_refusal()),
+        Err(Failed) => Err(Stop::Write),
+    }
+}

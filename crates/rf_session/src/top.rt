@@ -1,0 +1,103 @@
+//! All that the program does.
+
+ghost use Rattle.std.specs.Prelude.{◌≡◌, ◌≤◌, Bool, true, false, length, IsSomeAnd, if◌then◌else◌};
+ghost use Rattle.rf_base.specs.Cause.{Rose};
+ghost use Rattle.rf_base.specs.Told.{WhereTold};
+ghost use Rattle.rf_session.specs.declared.machine.Stop.{Stop};
+ghost use Rattle.rf_session.specs.Fetches.{outside};
+ghost use Rattle.rf_session.specs.Top.{script_limit, Headline, RepliesToTaken, RepliesToAll, RepliesToSome, IsReadThrough, EndsWell, Serves};
+ghost use Rattle.rf_session.specs.Words.{is_session, Usage};
+
+use crate::session::serve;
+use crate::show_machine::ShowMachine;
+use crate::words::{is_session, refuse_words};
+use rf_base::{LineReader, Shelf, Sink, Source, Status};
+use std::alloc::Global;
+
+/// Does all that the program does. `words` are those after the program's name, `input`, `shelf` and `output` its whole outside.
+///
+/// The one word `session` runs a session: script lines are read from the input, each is answered by a show that begins
+/// with the zone `main` alone, and its reply is written to the output before the next line is read. It ends at the end of
+/// the input or after the line `quit`. All other words are no command: `error usage` is written, and nothing is read.
+///
+/// - `Done`, `Refused`: the session came to its end, and no line, or one, was refused.
+/// - `Words`: the words are no command.
+/// - `Read`: the input failed. The replies to all lines whose line feed was read are written.
+/// - `Write`: the output failed. A prefix of the replies is written.
+/// - `Memory`: no memory was found. Whole replies are written, and at most a part of the next one.
+/// - `Long`: the input has more than 67,108,864 bytes. The replies to all lines that end within these are written.
+/// - `Shelf`: never.
+pub fn run<I: Source, F: Shelf, O: Sink>(
+    alloc: Global,
+    words: &[String],
+    input: &mut I,
+    shelf: &mut F,
+    output: &mut O,
+) -> Status
+    ensures headline { is_session words.now ≡ true → (refusal : Bool) → result ≡ (if refusal then Status.Refused else Status.Done) →
+        WhereTold (I.left input.old) (I.left input.new) (λ bytes _. Headline
+        (outside (O.contents output.old) (F.file shelf.old) (F.faults shelf.old))
+        (outside (O.contents output.new) (F.file shelf.new) (F.faults shelf.new)) bytes refusal) }
+    ensures read_through { is_session words.now ≡ true → (refusal : Bool) → result ≡ (if refusal then Status.Refused else Status.Done) →
+        WhereTold (I.left input.old) (I.left input.new) (λ bytes _. IsReadThrough bytes) }
+    ensures long { result ≡ Status.Long →
+        WhereTold (I.left input.old) (I.left input.new) (λ bytes _. RepliesToAll
+        (outside (O.contents output.old) (F.file shelf.old) (F.faults shelf.old))
+        (outside (O.contents output.new) (F.file shelf.new) (F.faults shelf.new)) bytes) }
+    ensures read { result ≡ Status.Read →
+        WhereTold (I.left input.old) (I.left input.new) (λ bytes left. RepliesToTaken
+        (outside (O.contents output.old) (F.file shelf.old) (F.faults shelf.old))
+        (outside (O.contents output.new) (F.file shelf.new) (F.faults shelf.new)) bytes left) }
+    ensures write { is_session words.now ≡ true → result ≡ Status.Write →
+        WhereTold (I.left input.old) (I.left input.new) (λ bytes _. RepliesToSome Stop.Write
+        (outside (O.contents output.old) (F.file shelf.old) (F.faults shelf.old))
+        (outside (O.contents output.new) (F.file shelf.new) (F.faults shelf.new)) bytes) }
+    ensures memory { is_session words.now ≡ true → result ≡ Status.Memory →
+        WhereTold (I.left input.old) (I.left input.new) (λ bytes _. RepliesToSome Stop.Memory
+        (outside (O.contents output.old) (F.file shelf.old) (F.faults shelf.old))
+        (outside (O.contents output.new) (F.file shelf.new) (F.faults shelf.new)) bytes) }
+    ensures read_cause { result ≡ Status.Read → Rose (I.faults input.old) (I.faults input.new) }
+    ensures write_cause { result ≡ Status.Write → Rose (O.faults output.old) (O.faults output.new) }
+    ensures shelf_cause { result ≡ Status.Shelf → ⊥ }
+    ensures words_cause { result ≡ Status.Words → is_session words.now ≡ false }
+    ensures usage { is_session words.now ≡ false → Usage result (O.contents output.old) (O.contents output.new) }
+    ensures usage_input { is_session words.now ≡ false → input.new ≡ input.old }
+    ensures usage_shelf { is_session words.now ≡ false → shelf.new ≡ shelf.old }
+    ensures complete { is_session words.now ≡ true →
+        ¬ Rose (I.faults input.old) (I.faults input.new) → ¬ Rose (O.faults output.old) (O.faults output.new) →
+        IsSomeAnd (I.left input.old) (λ bytes. length bytes ≤ script_limit) → EndsWell result }
+    ensures input_later { I.faults input.old ≤ I.faults input.new }
+    ensures output_later { O.faults output.old ≤ O.faults output.new }
+{
+    if is_session(words) {
+        session(alloc, input, shelf, output)
+    } else {
+        refuse_words(output)
+    }
+}
+
+/// Answers the lines of the input from the first state.
+fn session<I: Source, F: Shelf, O: Sink>(
+    alloc: Global,
+    input: &mut I,
+    shelf: &mut F,
+    output: &mut O,
+) -> Status
+    ensures ends { WhereTold (I.left input.old) (I.left input.new) (λ bytes left. Serves result
+        (outside (O.contents output.old) (F.file shelf.old) (F.faults shelf.old))
+        (outside (O.contents output.new) (F.file shelf.new) (F.faults shelf.new)) bytes left) }
+    ensures input_later { I.faults input.old ≤ I.faults input.new }
+    ensures output_later { O.faults output.old ≤ O.faults output.new }
+    ensures read { result ≡ Status.Read → Rose (I.faults input.old) (I.faults input.new) }
+    ensures write { result ≡ Status.Write → Rose (O.faults output.old) (O.faults output.new) }
+    ensures no_words { result ≡ Status.Words → ⊥ }
+    ensures no_shelf { result ≡ Status.Shelf → ⊥ }
+{
+    let Ok(mut reader) = LineReader::new(alloc) else {
+        return Status::Memory;
+    };
+    let Ok(mut machine) = ShowMachine::new(alloc) else {
+        return Status::Memory;
+    };
+    serve(&mut reader, &mut machine, input, shelf, output)
+}
