@@ -1,0 +1,12 @@
+ghost use Rattle.rf_log.specs.Laws.{ClosedHasNoPlan, SettledIsClosed};
+
+/// Where the walk through a log closes the tree, the case has no plan, whoever made the log.
+pub fn closed_walk_has_no_plan()
+    ensures { ClosedHasNoPlan }
+{}
+
+/// A box of allowed indices that meet a path, without an empty set, from which nothing more can be removed, lies within
+/// the closure of the path, which then has no empty set either.
+pub fn settled_box_is_closed()
+    ensures { SettledIsClosed }
+{}

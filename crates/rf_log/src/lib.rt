@@ -1,0 +1,20 @@
+//! A log of a search and what it means: a case, boxes of indices, hints, the walk through the lines, and what a solver
+//! owes for its log.
+#![tactic(auto)]
+
+mod cond;
+mod conds;
+mod hint;
+mod laws;
+mod line;
+mod verdict;
+
+pub use cond::Cond;
+pub use conds::Conds;
+pub use hint::Hint;
+pub use laws::{closed_walk_has_no_plan, settled_box_is_closed};
+pub use line::{Cut, LogLine};
+pub use verdict::{Cause, Verdict};
+
+#[cfg(test)]
+mod tests;
