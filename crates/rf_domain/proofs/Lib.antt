@@ -1,0 +1,5 @@
+pub mod Bits
+pub mod Counting
+pub mod Swept
+pub mod Lowest
+pub mod SetsLemmas
