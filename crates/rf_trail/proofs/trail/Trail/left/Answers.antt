@@ -1,0 +1,11 @@
+use Rattle.std.proofs.Common.{◌∙◌, ap, reverse}
+use Rattle.rf_domain.specs.Sets.{sizes, total_of}
+use Rattle.rf_trail.specs.Trace.{has_of}
+use Rattle.rf_trail.proofs.PieceLemmas.{agree_top}
+use Rattle.rf_trail.proofs.trail.Trail.left.Goals as goal
+
+pub returns : goal.returns
+returns c =
+    c.left.ensures ∙ ap (total_of (sizes c.self.inside.domains)) (c.self.invariant.made.left
+    ∙ agree_top (sizes c.self.inside.domains) (reverse c.self.inside.steps.items) (reverse c.self.inside.pieces.items) c.self.invariant.agree)
+    ∙ ap (λ t. total_of t.counts (has_of t.counts t.entries)) c.self.view_is
