@@ -1,4 +1,5 @@
 pub mod Case
+pub mod Sets
 pub mod Box
 pub mod Hints
 pub mod Walk

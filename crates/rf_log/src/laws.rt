@@ -1,4 +1,4 @@
-ghost use Rattle.rf_log.specs.Laws.{ClosedHasNoPlan, SettledIsClosed};
+ghost use Rattle.rf_log.specs.Laws.{ClosedHasNoPlan, SetsAreTested, SettledIsClosed};
 
 /// Where the walk through a log closes the tree, the case has no plan, whoever made the log.
 pub fn closed_walk_has_no_plan()
@@ -9,4 +9,10 @@ pub fn closed_walk_has_no_plan()
 /// the closure of the path, which then has no empty set either.
 pub fn settled_box_is_closed()
     ensures { SettledIsClosed }
+{}
+
+/// Where a test of carriers looks only at which carriers there are, the set of two to four of them is among those that
+/// pass exactly where they pass.
+pub fn sets_are_tested()
+    ensures { SetsAreTested }
 {}

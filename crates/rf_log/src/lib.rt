@@ -12,7 +12,7 @@ mod verdict;
 pub use cond::Cond;
 pub use conds::Conds;
 pub use hint::Hint;
-pub use laws::{closed_walk_has_no_plan, settled_box_is_closed};
+pub use laws::{closed_walk_has_no_plan, sets_are_tested, settled_box_is_closed};
 pub use line::{Cut, LogLine};
 pub use verdict::{Cause, Verdict};
 
