@@ -1,5 +1,5 @@
-use Rattle.std.proofs.Common.{◌≡◌, ℕ, zero, suc, ◌-◌, ◌<◌, ◌≤◌, Bool, true, false, ◌&&◌, ◌||◌, cond, List, [], ◌∷◌, length, drop, slice_index, nat_le, Some, None, Option, refl, ap, sym, ◌∙◌, arith}
-use Rattle.std.specs.Option.{option_and_then}
+use Rattle.std.proofs.Common.{◌≡◌, ℕ, zero, suc, ◌-◌, ◌<◌, ◌≤◌, Bool, true, false, not, ◌&&◌, ◌||◌, cond, is_some, List, [], ◌∷◌, length, drop, slice_index, nat_le, Some, None, Option, refl, ap, sym, ◌∙◌, arith}
+use Rattle.std.specs.Option.{option_and_then, option_map_or}
 use Rattle.std.specs.List.{list_all}
 use Rattle.std.proofs.lemmas.Bool.{le-leb, leb-true, leb-false, ltb-false}
 use Rattle.rf_profiles.specs.Channels.{channels_of}
@@ -14,7 +14,7 @@ use Rattle.rf_show.specs.declared.edit.Edit.TheVariants.{AddProfile, AddProfiles
 use Rattle.rf_show.specs.declared.undo.Step.{Step}
 use Rattle.rf_show.specs.Limits.{most_profiles, widest}
 use Rattle.rf_show.specs.After.{change_first, edited, is_edit, new_carrier, new_scan, reasons, refusal, with_some}
-use Rattle.rf_show.specs.Show.{ShowData, is_show, are_bans, are_carriers, are_scans, belongs, has_profile, is_carrier, is_narrow, zone_number}
+use Rattle.rf_show.specs.Show.{ShowData, is_show, are_bans, are_carriers, are_scans, belongs, has_profile, is_carrier, is_narrow, is_steady, carrier_named, zone_number}
 use Rattle.rf_show.specs.Taken.{leads, step_fits, stepped}
 use Rattle.rf_show.proofs.FirstLemmas.{find_any}
 use Rattle.rf_show.proofs.KeptLemmas.{Kept, kept, is_kept}
@@ -71,9 +71,23 @@ new_profile_kept s name (Some p) k room new m =
 carriers_only : (s : ShowData) (cs : List Carrier) → Kept s → are_carriers s.profiles s.zones cs ≡ true → Kept (record s { carriers = cs })
 carriers_only s cs k h = record { profiles = k.profiles; carriers = h; bans = k.bans; scans = k.scans }
 
-carrier_only : (s : ShowData) (name : List ℕ) (f : Carrier → Carrier) → Kept s → ((c : Carrier) → (f c).name ≡ c.name) → ((c : Carrier) → belongs s.profiles s.zones (f c) ≡ belongs s.profiles s.zones c) → Kept (record s { carriers = change_first (is_carrier name) f s.carriers })
-carrier_only s name f k names there =
-    carriers_only s (change_first (is_carrier name) f s.carriers) k (change_carrier_kept s.profiles s.zones s.carriers name f k.carriers names there)
+carrier_only : (s : ShowData) (name : List ℕ) (f : Carrier → Carrier) → Kept s → ((c : Carrier) → (f c).name ≡ c.name) → ((c : Carrier) → belongs s.profiles s.zones (f c) ≡ belongs s.profiles s.zones c) → ((c : Carrier) → carrier_named s.carriers name ≡ Some c → is_steady c ≡ true → is_steady (f c) ≡ true) → Kept (record s { carriers = change_first (is_carrier name) f s.carriers })
+carrier_only s name f k names there steady =
+    carriers_only s (change_first (is_carrier name) f s.carriers) k (change_carrier_kept s.profiles s.zones s.carriers name f k.carriers names there steady)
+
+or_true : (b : Bool) → (b || true) ≡ true
+or_true true = refl
+or_true false = refl
+
+or_right : (a b : Bool) → b ≡ true → (a || b) ≡ true
+or_right a b h = rw h (or_true a)
+
+or_not : (a b : Bool) → a ≡ false → (not a || b) ≡ true
+or_not a b h = rw h refl
+
+-- what a question about the named carrier answers
+of_named : (cs : List Carrier) (name : List ℕ) (test : Carrier → Bool) (c : Carrier) (b : Bool) → option_map_or test (carrier_named cs name) false ≡ b → carrier_named cs name ≡ Some c → test c ≡ b
+of_named cs name test c b h found = sym (ap (λ o. option_map_or test o false) found) ∙ h
 
 bans_only : (s : ShowData) (bans : List Ban) → Kept s → are_bans s.zones bans ≡ true → Kept (record s { bans = bans })
 bans_only s bans k h = record { profiles = k.profiles; carriers = k.carriers; bans = h; scans = k.scans }
@@ -112,14 +126,20 @@ edited_kept s (AddCarrier name profile zone) k ok h =
     carriers_only s _ k
     (add_carrier_kept s.profiles s.zones s.carriers (new_carrier name profile zone) k.carriers (leb-false _ _ none.1.1.1.0)
     (sym (find_any (is_carrier name) s.carriers) ∙ none.1.1.0)
-    (and_true _ _ (not_false _ none.0) (not_false _ none.1.0)))
+    (and_true _ _ (not_false _ none.0) (not_false _ none.1.0)) refl)
 edited_kept s (Remove name) k ok h = carriers_only s _ k (remove_carrier_kept s.profiles s.zones s.carriers name k.carriers)
-edited_kept s (AddTime name from to) k ok h = carrier_only s name _ k (λ c. refl) (λ c. refl)
-edited_kept s (Always name) k ok h = carrier_only s name _ k (λ c. refl) (λ c. refl)
-edited_kept s (SetAt name khz) k ok h = carrier_only s name _ k (λ c. refl) (λ c. refl)
-edited_kept s (Clear name) k ok h = carrier_only s name _ k (λ c. refl) (λ c. refl)
-edited_kept s (Lock name) k ok h = carrier_only s name _ k (λ c. refl) (λ c. refl)
-edited_kept s (Unlock name) k ok h = carrier_only s name _ k (λ c. refl) (λ c. refl)
+edited_kept s (AddTime name from to) k ok h = carrier_only s name _ k (λ c. refl) (λ c. refl) (λ c found steady. steady)
+edited_kept s (Always name) k ok h = carrier_only s name _ k (λ c. refl) (λ c. refl) (λ c found steady. steady)
+edited_kept s (SetAt name khz) k ok h = carrier_only s name _ k (λ c. refl) (λ c. refl) (λ c found steady. or_true (not c.locked))
+edited_kept s (Clear name) k ok h =
+    let none = none_holds (reasons s (Clear name)) h in
+    carrier_only s name _ k (λ c. refl) (λ c. refl)
+    (λ c found steady. or_not c.locked _ (of_named s.carriers name (λ c. c.locked) c false none.1.0 found))
+edited_kept s (Lock name) k ok h =
+    let none = none_holds (reasons s (Lock name)) h in
+    carrier_only s name _ k (λ c. refl) (λ c. refl)
+    (λ c found steady. of_named s.carriers name (λ c. is_some c.at) c true (not_false _ none.1.0) found)
+edited_kept s (Unlock name) k ok h = carrier_only s name _ k (λ c. refl) (λ c. refl) (λ c found steady. refl)
 edited_kept s (AddBan lo hi zone) k ok h =
     let none = none_holds (reasons s (AddBan lo hi zone)) h in
     bans_only s _ k
@@ -137,7 +157,9 @@ edited_kept s (AddScan file sep zone threshold width hot) k ok h =
 edited_kept s (Unscan number) k ok h =
     let none = none_holds (reasons s (Unscan number)) h in
     scans_only s _ k (remove_scan_kept s.zones s.scans (number - 1) k.scans (number_within number (length s.scans) (not_false _ none.0)))
-edited_kept s (Place ats) k ok h = carriers_only s _ k (place_kept s.profiles s.zones s.carriers ats k.carriers)
+edited_kept s (Place ats) k ok h =
+    let none = none_holds (reasons s (Place ats)) h in
+    carriers_only s _ k (place_kept s.profiles s.zones s.carriers ats k.carriers none.1.0)
 
 -- a step leads where it fits, and to a show
 leads_to : (t s : ShowData) (u : Step) → step_fits t u ≡ true → stepped t u ≡ s → is_show s ≡ true → leads t u ≡ Some s

@@ -12,12 +12,13 @@ use Rattle.rf_zones.specs.Zones.{ZonesData, pair_place, with_zone, with_coupling
 use Rattle.rf_show.specs.declared.carrier.Carrier.{Carrier}
 use Rattle.rf_show.specs.Limits.{most_bans, most_carriers, most_profiles, most_scans}
 use Rattle.rf_show.specs.After.{change_first, remove_first, placed}
-use Rattle.rf_show.specs.Show.{ShowData, are_carriers, are_bans, are_scans, is_ban, is_carrier, is_profile, is_scan, has_profile, has_zone, has_zone_or_all, is_used, differ, profile_names, carrier_names, is_narrow, belongs}
-use Rattle.rf_show.proofs.FirstLemmas.{map-change_first, length-change_first, list_all-change_first, length-remove_first, list_all-remove_first, list_any-remove_first, find_any, list_any-map, list_any-same, position_any}
+use Rattle.rf_show.specs.Reasons.{moves_locked}
+use Rattle.rf_show.specs.Show.{ShowData, are_carriers, are_bans, are_scans, is_ban, is_carrier, is_profile, is_scan, has_profile, has_zone, has_zone_or_all, is_used, differ, profile_names, carrier_names, is_narrow, is_steady, carrier_named, belongs}
+use Rattle.rf_show.proofs.FirstLemmas.{map-change_first, length-change_first, list_all-change_first, list_all-change_found, or_false, length-remove_first, list_all-remove_first, list_any-remove_first, find_any, list_any-map, list_any-same, position_any}
 use Rattle.rf_show.proofs.KeptLemmas.{Kept, profiles_kept, are_kept_profiles, carriers_kept, are_kept_carriers}
 use Rattle.rf_show.proofs.ListLemmas.{and_true, both_true, list_all-remove, list_all-wider, or_left}
 use Rattle.rf_show.proofs.NameLemmas.{differ-remove_first, differ-append, same_both}
-use Rattle.rf_show.proofs.PlaceLemmas.{length-placed, map-placed, list_all-placed}
+use Rattle.rf_show.proofs.PlaceLemmas.{length-placed, map-placed, list_all-placed, placed_steady}
 
 -- whether a profile is there is seen in the names alone
 has_profile_names : (ps : List Profile) (name : List ℕ) → has_profile ps name ≡ list_any (λ n. same_name n name) (profile_names ps)
@@ -25,14 +26,15 @@ has_profile_names ps name = find_any (is_profile name) ps ∙ sym (list_any-map 
 
 -- ---- carriers
 
--- a change of the named carrier that keeps its names
-pub change_carrier_kept : (ps : List Profile) (z : ZonesData) (cs : List Carrier) (name : List ℕ) (f : Carrier → Carrier) → are_carriers ps z cs ≡ true → ((c : Carrier) → (f c).name ≡ c.name) → ((c : Carrier) → belongs ps z (f c) ≡ belongs ps z c) → are_carriers ps z (change_first (is_carrier name) f cs) ≡ true
-change_carrier_kept ps z cs name f h names there =
+-- a change of the named carrier that keeps its names, and leaves it a frequency where it is locked
+pub change_carrier_kept : (ps : List Profile) (z : ZonesData) (cs : List Carrier) (name : List ℕ) (f : Carrier → Carrier) → are_carriers ps z cs ≡ true → ((c : Carrier) → (f c).name ≡ c.name) → ((c : Carrier) → belongs ps z (f c) ≡ belongs ps z c) → ((c : Carrier) → carrier_named cs name ≡ Some c → is_steady c ≡ true → is_steady (f c) ≡ true) → are_carriers ps z (change_first (is_carrier name) f cs) ≡ true
+change_carrier_kept ps z cs name f h names there steady =
     let k = carriers_kept ps z cs h in
     are_kept_carriers ps z (change_first (is_carrier name) f cs) (record {
       few = omega (arith, k.few, length-change_first (is_carrier name) f cs);
       apart = ap differ (map-change_first (λ c. c.name) (is_carrier name) f cs names) ∙ k.apart;
       placed = list_all-change_first (belongs ps z) (is_carrier name) f cs there ∙ k.placed;
+      steady = list_all-change_found is_steady (is_carrier name) f cs k.steady steady;
     })
 
 pub remove_carrier_kept : (ps : List Profile) (z : ZonesData) (cs : List Carrier) (name : List ℕ) → are_carriers ps z cs ≡ true → are_carriers ps z (remove_first (is_carrier name) cs) ≡ true
@@ -42,11 +44,12 @@ remove_carrier_kept ps z cs name h =
       few = omega (arith, k.few, length-remove_first (is_carrier name) cs);
       apart = differ-remove_first (λ c. c.name) (is_carrier name) cs k.apart;
       placed = list_all-remove_first (belongs ps z) (is_carrier name) cs k.placed;
+      steady = list_all-remove_first is_steady (is_carrier name) cs k.steady;
     })
 
 -- a carrier of a new name
-pub add_carrier_kept : (ps : List Profile) (z : ZonesData) (cs : List Carrier) (c : Carrier) → are_carriers ps z cs ≡ true → length cs < most_carriers → list_any (is_carrier c.name) cs ≡ false → belongs ps z c ≡ true → are_carriers ps z (cs ++ c ∷ []) ≡ true
-add_carrier_kept ps z cs c h room new there =
+pub add_carrier_kept : (ps : List Profile) (z : ZonesData) (cs : List Carrier) (c : Carrier) → are_carriers ps z cs ≡ true → length cs < most_carriers → list_any (is_carrier c.name) cs ≡ false → belongs ps z c ≡ true → is_steady c ≡ true → are_carriers ps z (cs ++ c ∷ []) ≡ true
+add_carrier_kept ps z cs c h room new there steady =
     let k = carriers_kept ps z cs h in
     are_kept_carriers ps z (cs ++ c ∷ []) (record {
       few = omega (arith, room, length-append cs (c ∷ []));
@@ -54,15 +57,17 @@ add_carrier_kept ps z cs c h room new there =
           ∙ differ-append (carrier_names cs) (c.name ∷ []) k.apart refl
           (ap (λ b. b || false) (list_any-map (λ n. same_name n c.name) (λ c. c.name) cs ∙ new));
       placed = list_all-append (belongs ps z) cs (c ∷ []) ∙ and_true _ _ k.placed (ap (λ b. b && true) there);
+      steady = list_all-append is_steady cs (c ∷ []) ∙ and_true _ _ k.steady (ap (λ b. b && true) steady);
     })
 
-pub place_kept : (ps : List Profile) (z : ZonesData) (cs : List Carrier) (ats : List (Option ℕ)) → are_carriers ps z cs ≡ true → are_carriers ps z (placed cs ats) ≡ true
-place_kept ps z cs ats h =
+pub place_kept : (ps : List Profile) (z : ZonesData) (cs : List Carrier) (ats : List (Option ℕ)) → are_carriers ps z cs ≡ true → moves_locked cs ats ≡ false → are_carriers ps z (placed cs ats) ≡ true
+place_kept ps z cs ats h stay =
     let k = carriers_kept ps z cs h in
     are_kept_carriers ps z (placed cs ats) (record {
       few = omega (arith, k.few, length-placed cs ats);
       apart = ap differ (map-placed (λ c. c.name) cs ats (λ c at. refl)) ∙ k.apart;
       placed = list_all-placed (belongs ps z) cs ats (λ c at. refl) ∙ k.placed;
+      steady = placed_steady cs ats k.steady stay;
     })
 
 -- they belong to more profiles and zones, too
@@ -74,6 +79,7 @@ wider_kept ps qs z w cs hp hz h =
       apart = k.apart;
       placed = list_all-wider (belongs ps z) (belongs qs w) cs
           (λ c. λ b. let parts = both_true _ _ b in and_true _ _ (hp c.profile parts.0) (hz c.zone parts.1)) k.placed;
+      steady = k.steady;
     })
 
 -- ---- profiles
@@ -100,10 +106,6 @@ change_profile_kept s name f k names widths =
 false_unless : (b : Bool) → (b ≡ true → ⊥) → b ≡ false
 false_unless true h = absurd (h refl)
 false_unless false h = refl
-
-or_false : (a b : Bool) → (a || b) ≡ false → (a ≡ false) × (b ≡ false)
-or_false true b h = cc
-or_false false b h = (refl, h)
 
 -- a profile of another name is still there
 other_profile : (ps : List Profile) (name other : List ℕ) → same_name other name ≡ false → has_profile ps other ≡ true → has_profile (remove_first (is_profile name) ps) other ≡ true
@@ -134,7 +136,7 @@ drop_profile_kept s name k free =
         narrow = list_all-remove_first is_narrow (is_profile name) s.profiles own.narrow;
       });
       carriers = are_kept_carriers ps s.zones s.carriers
-          (record { few = all.few; apart = all.apart; placed = belong_still s.profiles s.zones name s.carriers free all.placed });
+          (record { few = all.few; apart = all.apart; placed = belong_still s.profiles s.zones name s.carriers free all.placed; steady = all.steady });
       bans = k.bans;
       scans = k.scans;
     }

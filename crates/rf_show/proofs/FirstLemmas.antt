@@ -28,6 +28,24 @@ pub list_all-change_first : {X : Type 0} (q : X → Bool) (p : X → Bool) (f : 
 list_all-change_first q p f [] e = refl
 list_all-change_first q p f (x ∷ xs) e = all_cond (p x) q x (f x) xs (change_first p f xs) (e x) (list_all-change_first q p f xs e)
 
+kept_cond : {X : Type 0} (b : Bool) (q : X → Bool) (f : X → X) (x : X) (xs ys : List X) → (q x && list_all q xs) ≡ true → (b ≡ true → q (f x) ≡ true) → (b ≡ false → list_all q ys ≡ true) → list_all q (cond b (f x ∷ xs) (x ∷ ys)) ≡ true
+kept_cond true q f x xs ys h now rest = and_true _ _ (now refl) (both_true _ _ h).1
+kept_cond false q f x xs ys h now rest = and_true _ _ (both_true _ _ h).0 (rest refl)
+
+find_head : {X : Type 0} (p : X → Bool) (x : X) (xs : List X) → p x ≡ true → find p (x ∷ xs) ≡ Some x
+find_head p x xs e = ap (λ b. cond b (Some x) (find p xs)) e
+
+find_tail : {X : Type 0} (p : X → Bool) (x : X) (xs : List X) → p x ≡ false → find p (x ∷ xs) ≡ find p xs
+find_tail p x xs e = ap (λ b. cond b (Some x) (find p xs)) e
+
+-- what holds of all still holds where it holds of the one that is changed
+pub list_all-change_found : {X : Type 0} (q : X → Bool) (p : X → Bool) (f : X → X) (xs : List X) → list_all q xs ≡ true → ((x : X) → find p xs ≡ Some x → q x ≡ true → q (f x) ≡ true) → list_all q (change_first p f xs) ≡ true
+list_all-change_found q p f [] h e = refl
+list_all-change_found q p f (x ∷ xs) h e =
+    kept_cond (p x) q f x xs (change_first p f xs) h
+    (λ b. e x (find_head p x xs b) (both_true _ _ h).0)
+    (λ b. list_all-change_found q p f xs (both_true _ _ h).1 (λ y found. e y (find_tail p x xs b ∙ found)))
+
 -- ---- what a removal of the first element leaves
 
 length_cond : {X : Type 0} (b : Bool) (x : X) (xs ys : List X) → length ys ≤ length xs → length (cond b xs (x ∷ ys)) ≤ suc (length xs)
@@ -59,7 +77,7 @@ pub list_any-remove_first : {X : Type 0} (q : X → Bool) (p : X → Bool) (xs :
 list_any-remove_first q p [] n h = cc
 list_any-remove_first q p (x ∷ xs) n h = any_left (p x) q x xs (remove_first p xs) (n x) h (list_any-remove_first q p xs n)
 
-or_false : (a b : Bool) → (a || b) ≡ false → (a ≡ false) × (b ≡ false)
+pub or_false : (a b : Bool) → (a || b) ≡ false → (a ≡ false) × (b ≡ false)
 or_false true b h = cc
 or_false false b h = (refl, h)
 

@@ -5,7 +5,7 @@ use Rattle.rf_profiles.specs.declared.profile.Profile.{Profile}
 use Rattle.rf_zones.specs.Zones.{ZonesData}
 use Rattle.rf_show.specs.declared.carrier.Carrier.{Carrier}
 use Rattle.rf_show.specs.Limits.{most_carriers, most_profiles}
-use Rattle.rf_show.specs.Show.{ShowData, first_show, is_show, are_profiles, are_carriers, are_bans, are_scans, differ, profile_names, carrier_names, is_narrow, belongs}
+use Rattle.rf_show.specs.Show.{ShowData, first_show, is_show, are_profiles, are_carriers, are_bans, are_scans, differ, profile_names, carrier_names, is_narrow, is_steady, belongs}
 use Rattle.rf_show.proofs.ListLemmas.{and_true, both_true}
 
 -- what every show keeps, part by part
@@ -51,12 +51,14 @@ pub record CarriersKept (ps : List Profile) (z : ZonesData) (cs : List Carrier) 
   pub few : length cs ≤ most_carriers
   pub apart : differ (carrier_names cs) ≡ true
   pub placed : list_all (belongs ps z) cs ≡ true
+  pub steady : list_all is_steady cs ≡ true
 
 pub carriers_kept : (ps : List Profile) (z : ZonesData) (cs : List Carrier) → are_carriers ps z cs ≡ true → CarriersKept ps z cs
 carriers_kept ps z cs h =
-    let placed = both_true _ _ h in
+    let steady = both_true _ _ h in
+    let placed = both_true _ _ steady.0 in
     let names = both_true _ _ placed.0 in
-    record { few = leb-true _ _ names.0; apart = names.1; placed = placed.1 }
+    record { few = leb-true _ _ names.0; apart = names.1; placed = placed.1; steady = steady.1 }
 
 pub are_kept_carriers : (ps : List Profile) (z : ZonesData) (cs : List Carrier) → CarriersKept ps z cs → are_carriers ps z cs ≡ true
-are_kept_carriers ps z cs k = and_true _ _ (and_true _ _ (le-leb _ _ k.few) k.apart) k.placed
+are_kept_carriers ps z cs k = and_true _ _ (and_true _ _ (and_true _ _ (le-leb _ _ k.few) k.apart) k.placed) k.steady

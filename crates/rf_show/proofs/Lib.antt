@@ -9,3 +9,4 @@ pub mod ReasonLemmas
 pub mod RoomLemmas
 pub mod TogetherLemmas
 pub mod QueryLemmas
+pub mod CaseLemmas

@@ -1,8 +1,12 @@
-use Rattle.std.proofs.Common.{◌≡◌, ℕ, zero, suc, ◌+◌, ◌<◌, Bool, ◌&&◌, Option, List, [], ◌∷◌, length, get_or, set, map, refl, ap, sym, ◌∙◌, arith, add-one}
+use Rattle.std.proofs.Common.{◌≡◌, ℕ, zero, suc, ◌+◌, ◌<◌, Bool, true, false, not, ◌&&◌, ◌||◌, Option, Some, None, is_some, List, [], ◌∷◌, length, get_or, set, map, refl, ap, sym, ◌∙◌, arith, add-one}
 use Rattle.std.specs.List.{list_all}
 use Rattle.std.proofs.lemmas.List.{get_or_default}
 use Rattle.rf_show.specs.declared.carrier.Carrier.{Carrier}
 use Rattle.rf_show.specs.After.{placed}
+use Rattle.rf_show.specs.Reasons.{moves_locked, same_at}
+use Rattle.rf_show.specs.Show.{is_steady}
+use Rattle.rf_show.proofs.FirstLemmas.{or_false}
+use Rattle.rf_show.proofs.ListLemmas.{and_true, both_true}
 
 -- the carriers, the first i of them at the new frequencies
 abbrev pub placed_to : ℕ → List Carrier → List (Option ℕ) → List Carrier
@@ -61,6 +65,21 @@ pub list_all-placed : (q : Carrier → Bool) (cs : List Carrier) (ats : List (Op
 list_all-placed q [] ats e = refl
 list_all-placed q (c ∷ cs) [] e = refl
 list_all-placed q (c ∷ cs) (at ∷ ats) e = ap (λ b. b && list_all q (placed cs ats)) (e c at) ∙ ap (λ b. q c && b) (list_all-placed q cs ats e)
+
+steady_at : (locked : Bool) (old new : Option ℕ) → (not locked || is_some old) ≡ true → (locked && not (same_at old new)) ≡ false → (not locked || is_some new) ≡ true
+steady_at false old new h k = refl
+steady_at true None new h k = cc
+steady_at true (Some f) None h k = cc
+steady_at true (Some f) (Some g) h k = refl
+
+-- where no locked carrier moves, those that are locked have frequencies
+pub placed_steady : (cs : List Carrier) (ats : List (Option ℕ)) → list_all is_steady cs ≡ true → moves_locked cs ats ≡ false → list_all is_steady (placed cs ats) ≡ true
+placed_steady [] ats h k = refl
+placed_steady (c ∷ cs) [] h k = h
+placed_steady (c ∷ cs) (at ∷ ats) h k =
+    let all = both_true _ _ h in
+    let none = or_false _ _ k in
+    and_true _ _ (steady_at c.locked c.at at all.0 none.0) (placed_steady cs ats all.1 none.1)
 
 -- one turn of the loop that swaps them
 pub placed_step : (cs xs : List Carrier) (ats ys : List (Option ℕ)) (i : ℕ) (d : Carrier) (at : Option ℕ) → i < length cs → i < length xs → length ats ≡ length cs → xs ≡ placed_to i cs ats → ys ≡ taken_to i cs ats → at ≡ get_or ys i at → set xs i (record (get_or xs i d) { at = at }) ≡ placed_to (i + 1) cs ats

@@ -6,3 +6,4 @@ pub mod Change
 pub mod Taken
 pub mod ZoneChange
 pub mod Query
+pub mod Case

@@ -1,10 +1,14 @@
 -- Questions about a show. Carriers are places in its list.
-use Rattle.std.specs.Prelude.{ℕ, Bool, false, List, Option, Some, not, ◌&&◌, ◌||◌, ◌-◌, ◌==◌, find, map, max, slice_get, slice_index}
+use Rattle.std.specs.Prelude.{ℕ, Bool, true, false, List, Option, Some, None, not, ◌&&◌, ◌||◌, ◌-◌, ◌==◌, find, map, max, slice_get, slice_index}
 use Rattle.std.specs.List.{list_all, list_any}
 use Rattle.std.specs.Option.{option_and_then, option_map_or}
 use Rattle.rf_terms.specs.declared.kind.Kind.{Kind}
 use Rattle.rf_terms.specs.declared.kind.Kind.TheVariants.{Spacing}
 use Rattle.rf_terms.specs.Kinds.{roles_of}
+use Rattle.rf_base.specs.Name.{same_name}
+use Rattle.rf_exclusions.specs.Touched.{is_touched_by_ban, is_touched_by_scan}
+use Rattle.rf_exclusions.specs.declared.ban.Ban.{Ban}
+use Rattle.rf_exclusions.specs.declared.scan_set.ScanSet.{ScanSet}
 use Rattle.rf_profiles.specs.Channels.{channels}
 use Rattle.rf_profiles.specs.Profile as profile
 use Rattle.rf_profiles.specs.declared.profile.Profile.{Profile}
@@ -30,6 +34,33 @@ channel_of show c k = option_and_then (λ p. slice_get (channels p.channels) k) 
 abbrev pub is_channel : ShowData → ℕ → ℕ → Bool
 is_channel show c f = option_map_or (λ p. list_any (λ g. f == g) (channels p.channels)) (profile_of show c) false
 
+-- ---- exclusions
+
+-- the half width of a carrier's profile
+abbrev pub half_of : ShowData → ℕ → ℕ
+half_of show c = option_map_or (λ p. p.half) (profile_of show c) 0
+
+-- a ban of this zone, or of all zones, holds in a zone
+abbrev pub holds_in : List ℕ → Option (List ℕ) → Bool
+holds_in zone None = true
+holds_in zone (Some banned) = same_name banned zone
+
+-- a ban touches a frequency in a zone
+abbrev pub bans_touch : List Ban → List ℕ → ℕ → ℕ → Bool
+bans_touch bans zone half f = list_any (λ ban. is_touched_by_ban ban half f && holds_in zone ban.zone) bans
+
+-- a scan of a zone touches a frequency
+abbrev pub scans_touch : List ScanSet → List ℕ → ℕ → ℕ → Bool
+scans_touch scans zone half f = list_any (λ scan. same_name scan.zone zone && is_touched_by_scan scan half f) scans
+
+-- a ban or a scan touches a frequency in the zone of a carrier, under the half width of its profile
+unfoldable pub is_banned : ShowData → ℕ → ℕ → Bool
+is_banned show c f =
+    option_map_or (λ carrier. bans_touch show.bans carrier.zone (half_of show c) f || scans_touch show.scans carrier.zone (half_of show c) f)
+    (slice_get show.carriers c) false
+
+-- ---- allowed channels
+
 -- a carrier that is locked stays where it stands
 abbrev pub may_stand : Carrier → ℕ → Bool
 may_stand carrier f = not carrier.locked || same_at carrier.at (Some f)
@@ -37,9 +68,15 @@ may_stand carrier f = not carrier.locked || same_at carrier.at (Some f)
 abbrev pub may_stand_at : ShowData → ℕ → ℕ → Bool
 may_stand_at show c f = option_map_or (λ carrier. may_stand carrier f) (slice_get show.carriers c) false
 
+-- a carrier may stand at a frequency of its channels
+abbrev pub may_take : ShowData → ℕ → ℕ → Bool
+may_take show c f = not (is_banned show c f) && may_stand_at show c f
+
 -- a carrier may stand at its channel k
 abbrev pub is_allowed : ShowData → ℕ → ℕ → Bool
-is_allowed show c k = option_map_or (λ f. may_stand_at show c f) (channel_of show c k) false
+is_allowed show c k = option_map_or (λ f. may_take show c f) (channel_of show c k) false
+
+-- ---- carriers together
 
 -- two carriers hear each other: their zones are the same or coupled
 abbrev pub hear : ZonesData → Carrier → Carrier → Bool

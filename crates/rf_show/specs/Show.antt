@@ -1,4 +1,4 @@
-use Rattle.std.specs.Prelude.{ℕ, Bool, true, List, [], ◌∷◌, ◌&&◌, not, map, nat_abs, nat_le, length, Option, Some, None, find, is_some, unwrap_or}
+use Rattle.std.specs.Prelude.{ℕ, Bool, true, List, [], ◌∷◌, ◌&&◌, ◌||◌, not, map, nat_abs, nat_le, length, Option, Some, None, find, is_some, unwrap_or}
 use Rattle.std.specs.List.{list_all, list_any}
 use Rattle.rf_base.specs.Name.{same_name}
 use Rattle.rf_base.specs.declared.decimal.Decimal.{Decimal}
@@ -81,6 +81,10 @@ is_narrow p = list_all (λ n. nat_le n widest) (widths p)
 abbrev pub belongs : List Profile → ZonesData → Carrier → Bool
 belongs profiles zones c = has_profile profiles c.profile && has_zone zones c.zone
 
+-- a carrier that is locked has a frequency
+abbrev pub is_steady : Carrier → Bool
+is_steady c = not c.locked || is_some c.at
+
 -- whether a scan may have this threshold, from -200 to 200
 abbrev pub is_threshold : Decimal → Bool
 is_threshold threshold = nat_le (nat_abs threshold.0) farthest_threshold
@@ -100,6 +104,7 @@ are_profiles profiles =
 abbrev pub are_carriers : List Profile → ZonesData → List Carrier → Bool
 are_carriers profiles zones carriers =
     nat_le (length carriers) most_carriers && differ (carrier_names carriers) && list_all (belongs profiles zones) carriers
+    && list_all is_steady carriers
 
 abbrev pub are_bans : ZonesData → List Ban → Bool
 are_bans zones bans = nat_le (length bans) most_bans && list_all (is_ban zones) bans
@@ -107,7 +112,8 @@ are_bans zones bans = nat_le (length bans) most_bans && list_all (is_ban zones) 
 abbrev pub are_scans : ZonesData → List ScanSet → Bool
 are_scans zones scans = nat_le (length scans) most_scans && list_all (is_scan zones) scans
 
--- What every show keeps: the limits, names that differ, the bounds of numbers, and that what is named is there.
+-- What every show keeps: the limits, names that differ, the bounds of numbers, that what is named is there, and that what is
+-- locked has a frequency.
 unfoldable pub is_show : ShowData → Bool
 is_show show =
     are_profiles show.profiles && are_carriers show.profiles show.zones show.carriers

@@ -4,9 +4,11 @@
 mod admit;
 mod carrier;
 mod carrier_steps;
+mod case_law;
 mod change;
 mod edit;
 mod exclusion_steps;
+mod exclusions;
 mod find;
 mod frequencies;
 mod profile_steps;
@@ -21,6 +23,7 @@ mod undo;
 mod zone_change;
 
 pub use carrier::Carrier;
+pub use case_law::case_is_asked;
 pub use change::Change;
 pub use edit::Edit;
 pub use refusal::Refusal;

@@ -5,9 +5,10 @@ ghost use Rattle.rf_show.specs.Query as query;
 ghost use Rattle.rf_terms.specs.Kinds.{roles_of};
 
 use crate::carrier::Carrier;
+use crate::exclusions::{bans_touch, scans_touch};
 use crate::find::profile_named;
 use crate::show::Show;
-use crate::together::all_hear;
+use crate::together::{all_hear, hear_at};
 use rf_base::Khz;
 use rf_profiles::Profile;
 use rf_terms::Kind;
@@ -31,14 +32,43 @@ impl Show {
         self.profile_of(carrier).channels.index_of(khz).is_some()
     }
 
-    /// A carrier may stand at channel `k` of its profile: the channel is there, and where the carrier is locked it is the
-    /// carrier's frequency.
+    /// A frequency is banned for a carrier: a ban or a scan touches it in the carrier's zone, under the half width of its
+    /// profile.
+    #[tactic(auto, unfolding(crate::specs::Query::is_banned))]
+    pub fn banned(&self, carrier: usize, khz: Khz) -> bool
+        requires { carrier < length self.now.carriers }
+        ensures { result ≡ query.is_banned self.now carrier khz }
+    {
+        let zone = self.carriers()[carrier].zone;
+        let half = self.profile_of(carrier).half;
+        bans_touch(self.bans(), zone, half, khz) || scans_touch(self.scans(), zone, half, khz)
+    }
+
+    /// A carrier may stand at channel `k` of its profile: the channel is there, its frequency is not banned for the carrier,
+    /// and where the carrier is locked it is the carrier's frequency.
     pub fn allowed(&self, carrier: usize, k: u32) -> bool
         requires { carrier < length self.now.carriers }
         ensures { result ≡ query.is_allowed self.now carrier k }
     {
         let channels = &self.profile_of(carrier).channels;
-        k < channels.count() && may_stand(&self.carriers()[carrier], channels.freq(k))
+        k < channels.count() && self.may_take(carrier, channels.freq(k))
+    }
+
+    // A carrier may stand at a frequency of its channels.
+    fn may_take(&self, carrier: usize, khz: Khz) -> bool
+        requires { carrier < length self.now.carriers }
+        ensures { result ≡ query.may_take self.now carrier khz }
+    {
+        !self.banned(carrier, khz) && may_stand(&self.carriers()[carrier], khz)
+    }
+
+    /// Two carriers hear each other: their zones are the same or coupled.
+    pub fn hears(&self, a: usize, b: usize) -> bool
+        requires a { a < length self.now.carriers }
+        requires b { b < length self.now.carriers }
+        ensures { result ≡ query.hear_at self.now.zones self.now.carriers a b }
+    {
+        hear_at(self.zones(), self.carriers(), a, b)
     }
 
     /// Some minute of the week has all of these carriers on, and each two of them hear each other.

@@ -28,7 +28,8 @@ fn hears_all(zones: &Zones, carriers: &[Carrier], a: usize, set: &[usize]) -> bo
     set.iter().all(|b| hear_at(zones, carriers, a, *b))
 }
 
-fn hear_at(zones: &Zones, carriers: &[Carrier], a: usize, b: usize) -> bool
+/// Whether two carriers hear each other.
+pub(crate) fn hear_at(zones: &Zones, carriers: &[Carrier], a: usize, b: usize) -> bool
     requires a_there { a < length carriers.now }
     requires b_there { b < length carriers.now }
     requires placed { list_all (λ c. has_zone zones.now c.zone) carriers.now ≡ true }
