@@ -1,8 +1,10 @@
-use Rattle.std.specs.Prelude.{ℕ, Bool, List, [], ◌∷◌, Option, Some, None, nat_le, slice_index, drop, if◌then◌else◌}
+use Rattle.std.specs.Prelude.{ℕ, Bool, true, List, [], ◌∷◌, ◌&&◌, not, map, Option, Some, None, nat_le, slice_index, drop, if◌then◌else◌}
 use Rattle.std.specs.Option.{option_and_then}
-use Rattle.std.specs.List.{list_all}
+use Rattle.std.specs.List.{list_all, list_any}
+use Rattle.rf_base.specs.Name.{same_name}
 use Rattle.rf_profiles.specs.Range.{Span, range_of}
 use Rattle.rf_profiles.specs.Channels.{channels_of}
+use Rattle.rf_profiles.specs.declared.profile.Margins.{Margins}
 use Rattle.rf_profiles.specs.declared.profile.Profile.{Profile}
 use Rattle.rf_terms.specs.declared.kind.Kind.{Kind}
 use Rattle.rf_terms.specs.declared.kind.Margin.{Margin}
@@ -31,9 +33,20 @@ profile_of name ns =
     (range_of (slice_index ns 0) (slice_index ns 1) (slice_index ns 2))
     else None
 
+abbrev pub margin_widths : Margins → List ℕ
+margin_widths m = m.m2t3 ∷ m.m3t3 ∷ m.m2t5 ∷ m.m3t5 ∷ []
+
 -- the spacing, the half width and the margins of a profile
 abbrev pub widths : Profile → List ℕ
-widths p = p.spacing ∷ p.half ∷ p.margins.m2t3 ∷ p.margins.m3t3 ∷ p.margins.m2t5 ∷ p.margins.m3t5 ∷ []
+widths p = p.spacing ∷ p.half ∷ margin_widths p.margins
+
+-- whether no two names of a list are the same
+abbrev pub differ : List (List ℕ) → Bool
+differ [] = true
+differ (name ∷ names) = not (list_any (same_name name) names) && differ names
+
+abbrev pub profile_names : List Profile → List (List ℕ)
+profile_names profiles = map (λ p. p.name) profiles
 
 -- what a profile asks of the form of a kind
 abbrev pub asked : Profile → Margin → ℕ

@@ -2,9 +2,16 @@
 #![tactic(auto)]
 
 mod channels;
+mod fault;
+mod file;
 mod profile;
 mod range;
+mod table;
+#[cfg(test)]
+mod tests;
 
 pub use channels::{Channels, ChannelsFault};
+pub use fault::{Field, ProfilesFault};
+pub use file::read_profiles;
 pub use profile::{Margins, Profile};
 pub use range::Range;

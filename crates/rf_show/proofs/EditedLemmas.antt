@@ -13,7 +13,8 @@ use Rattle.rf_show.specs.declared.carrier.Carrier.{Carrier}
 use Rattle.rf_show.specs.Limits.{most_bans, most_carriers, most_profiles, most_scans}
 use Rattle.rf_show.specs.After.{change_first, remove_first, placed}
 use Rattle.rf_show.specs.Reasons.{moves_locked}
-use Rattle.rf_show.specs.Show.{ShowData, are_carriers, are_bans, are_scans, is_ban, is_carrier, is_profile, is_scan, has_profile, has_zone, has_zone_or_all, is_used, differ, profile_names, carrier_names, is_narrow, is_steady, carrier_named, belongs}
+use Rattle.rf_profiles.specs.Profile.{differ, profile_names}
+use Rattle.rf_show.specs.Show.{ShowData, are_carriers, are_bans, are_scans, is_ban, is_carrier, is_profile, is_scan, has_profile, has_zone, has_zone_or_all, is_used, carrier_names, is_narrow, is_steady, carrier_named, belongs}
 use Rattle.rf_show.proofs.FirstLemmas.{map-change_first, length-change_first, list_all-change_first, list_all-change_found, or_false, length-remove_first, list_all-remove_first, list_any-remove_first, find_any, list_any-map, list_any-same, position_any}
 use Rattle.rf_show.proofs.KeptLemmas.{Kept, profiles_kept, are_kept_profiles, carriers_kept, are_kept_carriers}
 use Rattle.rf_show.proofs.ListLemmas.{and_true, both_true, list_all-remove, list_all-wider, or_left}

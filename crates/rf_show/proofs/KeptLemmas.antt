@@ -5,7 +5,8 @@ use Rattle.rf_profiles.specs.declared.profile.Profile.{Profile}
 use Rattle.rf_zones.specs.Zones.{ZonesData}
 use Rattle.rf_show.specs.declared.carrier.Carrier.{Carrier}
 use Rattle.rf_show.specs.Limits.{most_carriers, most_profiles}
-use Rattle.rf_show.specs.Show.{ShowData, first_show, is_show, are_profiles, are_carriers, are_bans, are_scans, differ, profile_names, carrier_names, is_narrow, is_steady, belongs}
+use Rattle.rf_profiles.specs.Profile.{differ, profile_names}
+use Rattle.rf_show.specs.Show.{ShowData, first_show, is_show, are_profiles, are_carriers, are_bans, are_scans, carrier_names, is_narrow, is_steady, belongs}
 use Rattle.rf_show.proofs.ListLemmas.{and_true, both_true}
 
 -- what every show keeps, part by part

@@ -3,7 +3,7 @@ use Rattle.std.specs.List.{list_any}
 use Rattle.std.specs.Cmp.Lexicographic.{same_text}
 use Rattle.std.proofs.lemmas.List.Folds.{list_any-append}
 use Rattle.rf_base.specs.Name.{same_name}
-use Rattle.rf_show.specs.Show.{differ}
+use Rattle.rf_profiles.specs.Profile.{differ}
 use Rattle.rf_show.specs.After.{remove_first}
 use Rattle.rf_show.proofs.ListLemmas.{and_true, both_true}
 use Rattle.rf_show.proofs.FirstLemmas.{none-remove_first, list_any-map}

@@ -3,7 +3,7 @@ use Rattle.std.specs.List.{list_all}
 use Rattle.rf_base.specs.declared.decimal.Decimal.{Decimal}
 use Rattle.rf_exclusions.specs.declared.scan_set.ScanSet.{ScanSet}
 use Rattle.rf_exclusions.specs.declared.scan_set.Sep.{Sep}
-use Rattle.rf_profiles.specs.Profile.{profile_of, is_width, widths}
+use Rattle.rf_profiles.specs.Profile.{profile_of, differ, is_width, profile_names, widths}
 use Rattle.rf_profiles.specs.Range.{span, range_of}
 use Rattle.rf_profiles.specs.declared.profile.Profile.{Profile}
 use Rattle.rf_zones.specs.Zones.{with_zone, with_coupling}
@@ -12,7 +12,7 @@ use Rattle.rf_show.specs.declared.edit.Edit.{Edit}
 use Rattle.rf_show.specs.declared.edit.Edit.TheVariants.{AddProfile, AddProfiles, AddRange, DropProfile, AddZone, Couple, Uncouple, AddCarrier, Remove, AddTime, Always, SetAt, Clear, Lock, Unlock, AddBan, Unban, AddScan, Unscan, Place}
 use Rattle.rf_show.specs.declared.refusal.Refusal.{Refusal}
 use Rattle.rf_show.specs.Reasons.{first_reason, new_profile_reasons, new_profiles_reasons, range_reasons, drop_profile_reasons, new_zone_reasons, coupling_reasons, new_carrier_reasons, named_reasons, unlocked_reasons, set_reasons, lock_reasons, time_reasons, place_reasons, new_ban_reasons, new_scan_reasons, numbered_reasons}
-use Rattle.rf_show.specs.Show.{ShowData, differ, is_carrier, is_profile, profile_names, zone_number}
+use Rattle.rf_show.specs.Show.{ShowData, is_carrier, is_profile, zone_number}
 
 -- the first element that passes, changed by f
 abbrev pub change_first : {X : Type 0} → (X → Bool) → (X → X) → List X → List X

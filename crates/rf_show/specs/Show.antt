@@ -1,10 +1,10 @@
-use Rattle.std.specs.Prelude.{ℕ, Bool, true, List, [], ◌∷◌, ◌&&◌, ◌||◌, not, map, nat_abs, nat_le, length, Option, Some, None, find, is_some, unwrap_or}
+use Rattle.std.specs.Prelude.{ℕ, Bool, true, List, [], ◌&&◌, ◌||◌, not, map, nat_abs, nat_le, length, Option, Some, None, find, is_some, unwrap_or}
 use Rattle.std.specs.List.{list_all, list_any}
 use Rattle.rf_base.specs.Name.{same_name}
 use Rattle.rf_base.specs.declared.decimal.Decimal.{Decimal}
 use Rattle.rf_exclusions.specs.declared.ban.Ban.{Ban}
 use Rattle.rf_exclusions.specs.declared.scan_set.ScanSet.{ScanSet}
-use Rattle.rf_profiles.specs.Profile.{widths}
+use Rattle.rf_profiles.specs.Profile.{differ, profile_names, widths}
 use Rattle.rf_profiles.specs.declared.profile.Profile.{Profile}
 use Rattle.rf_zones.specs.Zones.{ZonesData, first_zones, zone_of}
 use Rattle.rf_show.specs.declared.carrier.Carrier.{Carrier}
@@ -62,16 +62,8 @@ zone_number zones name = unwrap_or (zone_of zones name) 0
 
 -- ---- what every show keeps
 
--- whether no two names of a list are the same
-abbrev pub differ : List (List ℕ) → Bool
-differ [] = true
-differ (name ∷ names) = not (list_any (same_name name) names) && differ names
-
 abbrev pub carrier_names : List Carrier → List (List ℕ)
 carrier_names carriers = map (λ c. c.name) carriers
-
-abbrev pub profile_names : List Profile → List (List ℕ)
-profile_names profiles = map (λ p. p.name) profiles
 
 -- whether no spacing, half width or margin is too large for a show
 abbrev pub is_narrow : Profile → Bool
