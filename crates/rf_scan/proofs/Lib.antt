@@ -2,3 +2,4 @@ pub mod TrimLemmas
 pub mod RecordLemmas
 pub mod ScanLemmas
 pub mod HotLemmas
+pub mod RisingLemmas

@@ -1,6 +1,6 @@
 ghost use Rattle.std.specs.Prelude.{◌≡◌, ◌↔◌, ℕ, IfOk, Contains};
 ghost use Rattle.std.specs.List.Sorted.{IsStrictlyIncreasing};
-ghost use Rattle.rf_scan.specs.Hot.{hot_frequencies};
+ghost use Rattle.rf_scan.specs.Hot.{hot_frequencies, hot_of};
 
 use crate::point::Point;
 use rf_base::{Decimal, NoMemory};
@@ -14,6 +14,7 @@ pub fn hot_points(
     points: &[Point],
     threshold: Decimal,
 ) -> Result<HotPoints, NoMemory>
+    ensures value { IfOk result (λ hot. hot ≡ hot_of threshold points.now) }
     ensures rising { IfOk result (λ hot. IsStrictlyIncreasing hot) }
     ensures exact { IfOk result (λ hot. (f : ℕ) → Contains hot f ↔ Contains (hot_frequencies threshold points.now) f) }
 {
