@@ -1,0 +1,4 @@
+pub mod CaseLemmas
+pub mod SetLemmas
+pub mod TogetherLemmas
+pub mod MemberLemmas

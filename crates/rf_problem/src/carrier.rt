@@ -1,0 +1,78 @@
+ghost use Rattle.std.specs.Prelude.{◌≡◌, ◌<◌, ◌≤◌, ◌==◌, length, slice_index, slice_index_or, false};
+ghost use Rattle.std.specs.Int.{bit_at};
+ghost use Rattle.std.specs.List.Sorted.{IsStrictlyIncreasing};
+ghost use Rattle.rf_terms.specs.Forms.{AreFrequencies};
+ghost use Rattle.rf_terms.specs.Kinds.{margin_of};
+ghost use Rattle.rf_zones.specs.declared.slices.TheConstants.{MAX_CARRIERS};
+ghost use Rattle.rf_log.specs.Case.{asked};
+ghost use Rattle.rf_problem.specs.declared.limits.TheConstants.{MAX_CHANNELS};
+ghost use Rattle.rf_problem.specs.Problem.{carrier_of};
+
+use crate::limits::MARGINS;
+use rf_base::Items;
+use rf_terms::{Kind, Margin, asks};
+use rf_zones::Mask;
+use std::marker::Model;
+
+/// A carrier of a problem.
+#[derive(Drop)]
+pub struct Carrier {
+    pub freqs: Items<u32>,
+    pub allowed: Items<bool>,
+    pub spacing: u32,
+    pub margins: [u32; MARGINS],
+    pub heard: Mask,
+}
+
+impl Model for Carrier {
+    ghost use Rattle.rf_problem.specs.Problem.{CarrierData};
+
+    ghost Value = { CarrierData };
+
+    ghost use Rattle.rf_problem.specs.Kept.{IsCarrier};
+
+    ghost view = { λ c. record { freqs = c.freqs; allowed = c.allowed; spacing = c.spacing; margins = c.margins; heard = c.heard } };
+
+    ghost invariant = { λ c. IsCarrier (record { freqs = c.freqs; allowed = c.allowed; spacing = c.spacing; margins = c.margins; heard = c.heard }) };
+}
+
+impl Carrier {
+    /// Its frequencies in kilohertz, rising.
+    pub fn freqs(&self) -> &[u32]
+        ensures value { result.now ≡ self.now.freqs }
+        ensures rising { IsStrictlyIncreasing result.now }
+        ensures below { AreFrequencies result.now }
+        ensures few { length result.now ≤ MAX_CHANNELS }
+    {
+        self.freqs.as_slice()
+    }
+
+    /// Which of them are allowed.
+    pub fn allowed(&self) -> &[bool]
+        ensures value { result.now ≡ self.now.allowed }
+        ensures flagged { length result.now ≡ length self.now.freqs }
+    {
+        self.allowed.as_slice()
+    }
+
+    /// What it asks of the form of a kind, in kilohertz.
+    pub fn asked(&self, kind: Kind) -> u32
+        ensures { result ≡ asked (carrier_of self.now) (margin_of kind) }
+    {
+        match asks(kind) {
+            Margin::Spacing => self.spacing,
+            Margin::M2t3 => self.margins[0],
+            Margin::M3t3 => self.margins[1],
+            Margin::M2t5 => self.margins[2],
+            Margin::M3t5 => self.margins[3],
+        }
+    }
+
+    /// Whether it and an earlier carrier are heard together.
+    pub fn hears(&self, earlier: usize) -> bool
+        requires { earlier < MAX_CARRIERS }
+        ensures { result ≡ (bit_at self.now.heard earlier == 1) }
+    {
+        self.heard >> earlier & 1 == 1
+    }
+}
