@@ -1,12 +1,13 @@
 ghost use Rattle.std.specs.Prelude.{◌≡◌, IfOk, IfErr, OnErr, IsSome, IsTrue, Ok, Err, Some};
 ghost use Rattle.rf_rules.specs.Analyses.{analysed};
+ghost use Rattle.rf_rules.specs.Products.{listed};
 ghost use Rattle.rf_show.specs.After.{after, is_edit};
 ghost use Rattle.rf_show.specs.Show.{first_show};
 ghost use Rattle.rf_show.specs.Taken.{taken};
 ghost use Rattle.rf_show.specs.declared.refusal.Refusal.{Refusal};
 
-use rf_base::NoMemory;
-use rf_rules::{Analysis, analyse};
+use rf_base::{Khz, NoMemory};
+use rf_rules::{Analysis, Products, analyse, products};
 use rf_show::{Edit, Refusal, Show, Undo};
 use std::alloc::Global;
 use std::marker::Model;
@@ -106,5 +107,11 @@ impl AnalysedShow {
         ensures { result.now ≡ analysed self.now }
     {
         &self.analysis
+    }
+
+    pub(crate) fn products(&self, lo: Khz, hi: Khz) -> Result<Products, NoMemory>
+        ensures { IfOk result (λ found. found ≡ listed self.now lo hi) }
+    {
+        products(self.alloc, &self.show, lo, hi)
     }
 }

@@ -1,13 +1,14 @@
 ghost use Rattle.std.specs.Prelude.{◌≡◌, ◌↔◌, IfOk, IsTrue, OnOk, OnErr, Ok, Err, Some, None};
 ghost use Rattle.rf_rules.specs.Analyses.{analysed};
+ghost use Rattle.rf_rules.specs.Products.{listed};
 ghost use Rattle.rf_show.specs.After.{is_edit};
 ghost use Rattle.rf_show.specs.declared.refusal.Refusal.{Refusal};
 ghost use Rattle.rf_editor.specs.History.{first_history, edited_history, undone, redone};
 
 use crate::analysed::{AnalysedShow, EditFault};
 use crate::walk::{StepFault, push, walk};
-use rf_base::NoMemory;
-use rf_rules::Analysis;
+use rf_base::{Khz, NoMemory};
+use rf_rules::{Analysis, Products};
 use rf_show::{Edit, Show, Undo};
 use std::alloc::Global;
 use std::marker::Model;
@@ -96,5 +97,12 @@ impl Editor {
         ensures { result.now ≡ analysed self.now.show }
     {
         self.show.analysis()
+    }
+
+    /// The intermodulation products of the show as it stands, from `lo` to `hi`: the first 10,000, and how many there are.
+    pub fn products(&self, lo: Khz, hi: Khz) -> Result<Products, NoMemory>
+        ensures { IfOk result (λ found. found ≡ listed self.now.show lo hi) }
+    {
+        self.show.products(lo, hi)
     }
 }

@@ -3,6 +3,8 @@
 
 mod analysed;
 mod editor;
+#[cfg(test)]
+mod tests;
 mod walk;
 
 pub use analysed::EditFault;
