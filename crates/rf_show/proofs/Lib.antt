@@ -10,3 +10,4 @@ pub mod RoomLemmas
 pub mod TogetherLemmas
 pub mod QueryLemmas
 pub mod CaseLemmas
+pub mod CompanyLemmas

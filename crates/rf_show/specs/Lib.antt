@@ -6,4 +6,5 @@ pub mod Change
 pub mod Taken
 pub mod ZoneChange
 pub mod Query
+pub mod Company
 pub mod Case
