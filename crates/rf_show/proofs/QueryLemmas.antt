@@ -1,20 +1,23 @@
 -- Lemmas on questions about a show.
-use Rattle.std.proofs.Common.{◌≡◌, ◌<◌, ℕ, Bool, true, false, List, length, get_or, Option, Some, None, arith, inl, inr, refl, sym, ap, ◌∙◌}
+use Rattle.std.proofs.Common.{◌≡◌, ◌<◌, ◌≤◌, ℕ, zero, suc, Bool, true, false, cond, List, [], ◌∷◌, length, get_or, Option, Some, None, arith, inl, inr, refl, sym, ap, ◌∙◌}
 use Rattle.std.specs.Prelude.{find, is_some}
-use Rattle.std.specs.List.{list_any}
-use Rattle.std.proofs.lemmas.Bool.{false≢true}
+use Rattle.std.specs.List.{list_all, list_any}
+use Rattle.std.proofs.lemmas.Bool.{false≢true, leb-true}
 use Rattle.std.proofs.lemmas.Bool.Decides.{nat_tests}
 use Rattle.std.proofs.lemmas.Option.{slice_get-get_or}
-use Rattle.std.specs.Prelude.{IsSome, IfSome, IfNone, Contains, slice_get, nat_eq, ◌==◌}
+use Rattle.std.specs.Prelude.{IsSome, IfSome, IfNone, All, nat_le, Contains, slice_get, nat_eq, ◌==◌}
 use Rattle.std.specs.Option.{option_and_then, option_copied}
 use denote.Bor.{Bor}
 use Rattle.std.proofs.lemmas.Map.Views.{Contains-from_any}
 use Rattle.std.proofs.lemmas.Option.{slice_get_cases, get_or_from_slice_get}
 use Rattle.std.proofs.lemmas.List.Folds.{list_any_at}
 use Rattle.std.proofs.lemmas.List.Sums.{AllPass-from_list_all}
-use Rattle.rf_show.specs.Show.{ShowData, belongs, has_profile, is_profile, is_show}
+use Rattle.rf_profiles.specs.Profile.{widths}
+use Rattle.rf_profiles.specs.declared.profile.Profile.{Profile}
+use Rattle.rf_show.specs.Limits.{widest}
+use Rattle.rf_show.specs.Show.{ShowData, is_narrow, belongs, has_profile, is_profile, is_show}
 use Rattle.rf_show.specs.Query.{profile_of}
-use Rattle.rf_show.proofs.KeptLemmas.{carriers_kept, kept}
+use Rattle.rf_show.proofs.KeptLemmas.{carriers_kept, kept, profiles_kept}
 use Rattle.rf_show.proofs.ListLemmas.{both_true}
 use Rattle.rf_show.specs.declared.carrier.Carrier.{Carrier}
 
@@ -44,3 +47,46 @@ index-some xs f (Some k) p q =
       | inl w ↦ list_any_at (λ g. f == g) xs k w.0 w.1 (let e : get_or xs k w.0 ≡ f = get_or_from_slice_get xs k f w.0 p in grind (arith, nat_tests, e))
       | inr w ↦ absurd (let e : None ≡ Some f = sym w.1 ∙ p in false≢true (ap is_some e))
     ])
+
+found_cond : (b : Bool) (p q : Profile) (o : Option Profile) → cond b (Some p) o ≡ Some q → is_narrow p ≡ true → (o ≡ Some q → is_narrow q ≡ true) → is_narrow q ≡ true
+found_cond true p q o h now rest = let e : p ≡ q = cc in sym (ap is_narrow e) ∙ now
+found_cond false p q o h now rest = rest h
+
+found-all : (ps : List Profile) (name : List ℕ) (q : Profile) → list_all is_narrow ps ≡ true → find (is_profile name) ps ≡ Some q → is_narrow q ≡ true
+found-all [] name q all h = cc
+found-all (p ∷ ps) name q all h =
+    let parts = both_true (is_narrow p) _ all in
+    found_cond (is_profile name p) p q (find (is_profile name) ps) h parts.0 (found-all ps name q parts.1)
+
+-- a profile that is found asks nothing that is too wide
+pub found-narrow : (show : ShowData) (name : List ℕ) (q : Profile) → is_show show ≡ true → find (is_profile name) show.profiles ≡ Some q → is_narrow q ≡ true
+found-narrow show name q h found = found-all show.profiles name q (profiles_kept show.profiles (kept show h).profiles).narrow found
+
+-- the widths of a profile that asks nothing that is too wide
+pub record NarrowProfile (p : Profile) : Type 0 where
+  pub spacing : p.spacing ≤ widest
+  pub m2t3 : p.margins.m2t3 ≤ widest
+  pub m3t3 : p.margins.m3t3 ≤ widest
+  pub m2t5 : p.margins.m2t5 ≤ widest
+  pub m3t5 : p.margins.m3t5 ≤ widest
+
+pub narrow_profile : (p : Profile) → is_narrow p ≡ true → NarrowProfile p
+narrow_profile p h =
+    let each : (k : ℕ) (d : ℕ) → k < 6 → nat_le (get_or (widths p) k d) widest ≡ true = λ k d low. AllPass-from_list_all (λ n. nat_le n widest) (widths p) h k d low in
+    record {
+      spacing = leb-true _ _ (each 0 0 (omega arith));
+      m2t3 = leb-true _ _ (each 2 0 (omega arith));
+      m3t3 = leb-true _ _ (each 3 0 (omega arith));
+      m2t5 = leb-true _ _ (each 4 0 (omega arith));
+      m3t5 = leb-true _ _ (each 5 0 (omega arith));
+    }
+
+pub four-narrow : (a b c d n : ℕ) → a ≤ n → b ≤ n → c ≤ n → d ≤ n → All (λ m. m ≤ n) (a ∷ b ∷ c ∷ d ∷ [])
+four-narrow a b c d n ha hb hc hd = λ k e low. four k e low
+  where
+    four : (k e : ℕ) → k < 4 → get_or (a ∷ b ∷ c ∷ d ∷ []) k e ≤ n
+    four zero e low = ha
+    four (suc zero) e low = hb
+    four (suc (suc zero)) e low = hc
+    four (suc (suc (suc zero))) e low = hd
+    four (suc (suc (suc (suc k)))) e low = absurd (omega (arith, low))

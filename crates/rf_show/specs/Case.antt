@@ -1,5 +1,5 @@
 -- A show as a case: what a plan of its carriers has to meet.
-use Rattle.std.specs.Prelude.{◌≡◌, ◌<◌, ◌≤◌, ℕ, true, List, [], All, length, map}
+use Rattle.std.specs.Prelude.{◌≡◌, ◌<◌, ◌≤◌, ℕ, true, List, [], ◌∷◌, All, length, map}
 use Rattle.std.specs.List.{range_with_len}
 use Rattle.std.specs.Option.{option_map_or}
 use Rattle.rf_terms.specs.declared.kind.Kind.{Kind}
@@ -22,6 +22,10 @@ channels_of show c = option_map_or (λ p. channels p.channels) (profile_of show 
 -- what a carrier's profile asks
 abbrev pub asked : ShowData → ℕ → Margin → ℕ
 asked show c margin = option_map_or (λ p. profile.asked p margin) (profile_of show c) 0
+
+-- the margins that a carrier's profile asks, in the order of their fields
+abbrev pub margins_of : ShowData → ℕ → List ℕ
+margins_of show c = asked show c M2t3 ∷ asked show c M3t3 ∷ asked show c M2t5 ∷ asked show c M3t5 ∷ []
 
 -- a carrier of the case
 unfoldable pub case_carrier : ShowData → ℕ → case.Carrier

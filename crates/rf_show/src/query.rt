@@ -1,8 +1,11 @@
-ghost use Rattle.std.specs.Prelude.{◌≡◌, ◌<◌, All, Some, find, is_some, length, true};
+ghost use Rattle.std.specs.Prelude.{◌≡◌, ◌<◌, ◌≤◌, All, IsTrue, Some, find, is_some, length, true};
 ghost use Rattle.std.specs.Option.{option_copied};
-ghost use Rattle.rf_show.specs.Show.{is_profile};
+ghost use Rattle.rf_show.specs.Show.{is_narrow, is_profile};
 ghost use Rattle.rf_show.specs.Query as query;
 ghost use Rattle.rf_terms.specs.Kinds.{roles_of};
+ghost use Rattle.rf_terms.specs.declared.kind.Margin.{Margin};
+ghost use Rattle.rf_show.specs.Limits.{widest};
+ghost use Rattle.rf_show.specs.Case.{asked, margins_of};
 
 use crate::carrier::Carrier;
 use crate::exclusions::{bans_touch, scans_touch};
@@ -20,6 +23,15 @@ impl Show {
         requires { carrier < length self.now.carriers }
         ensures { query.profile_of self.now carrier ≡ Some result.now }
     {
+        self.own_profile(carrier)
+    }
+
+    // The profile of a carrier, which asks nothing that is too wide for a show.
+    fn own_profile(&self, carrier: usize) -> &Profile
+        requires { carrier < length self.now.carriers }
+        ensures value { query.profile_of self.now carrier ≡ Some result.now }
+        ensures narrow { IsTrue (is_narrow result.now) }
+    {
         let name = self.carriers()[carrier].profile;
         profile_named(self.profiles(), name).unwrap()
     }
@@ -30,6 +42,25 @@ impl Show {
         ensures { result ≡ query.is_channel self.now carrier khz }
     {
         self.profile_of(carrier).channels.index_of(khz).is_some()
+    }
+
+    /// The spacing that a carrier's profile asks, in kilohertz.
+    pub fn spacing(&self, carrier: usize) -> u32
+        requires { carrier < length self.now.carriers }
+        ensures value { result ≡ asked self.now carrier Margin.Spacing }
+        ensures narrow { result ≤ widest }
+    {
+        self.own_profile(carrier).spacing
+    }
+
+    /// The margins that a carrier's profile asks, in the order of their fields, in kilohertz.
+    pub fn margins(&self, carrier: usize) -> [u32; 4]
+        requires { carrier < length self.now.carriers }
+        ensures value { result ≡ margins_of self.now carrier }
+        ensures narrow { All (λ m. m ≤ widest) result }
+    {
+        let margins = self.own_profile(carrier).margins;
+        [margins.m2t3, margins.m3t3, margins.m2t5, margins.m3t5]
     }
 
     /// A frequency is banned for a carrier: a ban or a scan touches it in the carrier's zone, under the half width of its
