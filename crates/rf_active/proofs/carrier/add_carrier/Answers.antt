@@ -1,0 +1,13 @@
+use Rattle.std.proofs.Common.{ap, sym, ◌∙◌, length}
+use Rattle.std.proofs.lemmas.List.FromFn.{length-map-range_with_len}
+use Rattle.rf_show.specs.Query.{is_allowed}
+use Rattle.rf_show.specs.Case.{channels_of}
+use Rattle.rf_active.proofs.ListLemmas.{channels_are}
+use Rattle.rf_active.proofs.carrier.add_carrier.Goals as goal
+
+pub add-requires-clause-flagged : goal.add-requires-clause-flagged
+add-requires-clause-flagged c =
+    ap length c.in_ok-allowed.ensures
+    ∙ length-map-range_with_len (is_allowed c.args.show.now c.args.carrier) 0 (length (channels_of c.args.show.now c.args.carrier))
+    ∙ ap length (channels_are c.args.show.now c.args.carrier _ c.profile_of.ensures)
+    ∙ sym (ap length c.in_ok-freqs.ensures.value)

@@ -1,0 +1,69 @@
+//! A carrier of a show as one of a problem.
+
+ghost use Rattle.std.specs.Prelude.{◌≡◌, ◌<◌, ◌≤◌, ℕ, All, IfOk, OnOk, length, map};
+ghost use Rattle.std.specs.List.{range_with_len};
+ghost use Rattle.std.specs.List.Sorted.{IsStrictlyIncreasing};
+ghost use Rattle.rf_terms.specs.Forms.{AreFrequencies};
+ghost use Rattle.rf_zones.specs.declared.slices.TheConstants.{MAX_CARRIERS};
+ghost use Rattle.rf_show.specs.Query.{is_allowed};
+ghost use Rattle.rf_show.specs.Case.{channels_of};
+ghost use Rattle.rf_profiles.specs.Channels as profile;
+ghost use Rattle.rf_active.specs.Active.{IsAdded};
+
+use rf_base::NoMemory;
+use rf_problem::Problem;
+use rf_profiles::Channels;
+use rf_show::Show;
+use std::alloc::Global;
+
+/// Adds a carrier of a show to a problem that has all carriers before it.
+pub(crate) fn add_carrier(
+    alloc: Global,
+    problem: &mut Problem,
+    show: &Show,
+    carrier: usize,
+) -> Result<(), NoMemory>
+    requires there { carrier < length show.now.carriers }
+    requires room { carrier < MAX_CARRIERS }
+    requires next { length problem.old.carriers ≡ carrier }
+    ensures { OnOk result (IsAdded show.now carrier problem.old problem.new) }
+{
+    let freqs = frequencies(alloc, &show.profile_of(carrier).channels)?;
+    let allowed = flags(alloc, show, carrier)?;
+    problem.add(
+        freqs,
+        allowed,
+        show.spacing(carrier),
+        &show.margins(carrier),
+        show.hearers(carrier),
+    )
+}
+
+/// The frequencies of channels in kilohertz.
+fn frequencies(alloc: Global, channels: &Channels) -> Result<Vec<u32>, NoMemory>
+    ensures value { IfOk result (λ freqs. freqs.items ≡ profile.channels channels.now) }
+    ensures above { IfOk result (λ freqs. All (λ f. 1 ≤ f) freqs.items) }
+    ensures below { IfOk result (λ freqs. AreFrequencies freqs.items) }
+    ensures rising { IfOk result (λ freqs. IsStrictlyIncreasing freqs.items) }
+    ensures few { IfOk result (λ freqs. length freqs.items ≤ 65536) }
+{
+    let count = channels.count();
+    let mut freqs = Vec::with_capacity(alloc, count as usize)?;
+    for k in 0..count {
+        freqs.push(channels.freq(k).get())?;
+    }
+    Ok(freqs)
+}
+
+/// Which channels of a carrier are allowed.
+fn flags(alloc: Global, show: &Show, carrier: usize) -> Result<Vec<bool>, NoMemory>
+    requires { carrier < length show.now.carriers }
+    ensures { IfOk result (λ flags. flags.items ≡ map (is_allowed show.now carrier) (range_with_len 0 (length (channels_of show.now carrier)))) }
+{
+    let count = show.profile_of(carrier).channels.count();
+    let mut flags = Vec::with_capacity(alloc, count as usize)?;
+    for k in 0..count {
+        flags.push(show.allowed(carrier, k))?;
+    }
+    Ok(flags)
+}
