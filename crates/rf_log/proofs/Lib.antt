@@ -3,3 +3,7 @@ pub mod Kept
 pub mod Ahead
 pub mod ClosureLaws
 pub mod SetLemmas
+pub mod WordLemmas
+pub mod ReadingLemmas
+pub mod BelowLemmas
+pub mod TextLemmas

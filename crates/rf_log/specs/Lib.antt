@@ -7,3 +7,9 @@ pub mod Relations
 pub mod Closure
 pub mod Solved
 pub mod Laws
+pub mod Words
+pub mod Names
+pub mod Operands
+pub mod Reading
+pub mod LogText
+pub mod LineTexts

@@ -7,14 +7,24 @@ mod conds;
 mod hint;
 mod laws;
 mod line;
+mod lines;
+mod log;
+mod names;
+mod operand;
+mod reading;
 mod verdict;
+mod words;
+mod writing;
 
 pub use cond::Cond;
 pub use conds::Conds;
 pub use hint::Hint;
 pub use laws::{closed_walk_has_no_plan, sets_are_tested, settled_box_is_closed};
 pub use line::{Cut, LogLine};
+pub use log::{Log, LogText, read_log};
+pub use names::Names;
 pub use verdict::{Cause, Verdict};
+pub use writing::line_text;
 
 #[cfg(test)]
 mod tests;

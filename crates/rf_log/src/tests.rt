@@ -1,4 +1,4 @@
-use crate::{Cond, Conds};
+use crate::{Cond, Conds, LogText, line_text, read_log};
 
 #[test]
 fn conditions_keep_their_order_beyond_eight(rt: HostRuntime) {
@@ -18,4 +18,50 @@ fn conditions_keep_their_order_beyond_eight(rt: HostRuntime) {
         carrier = cond.carrier.saturating_add(1);
     }
     assert_eq!(rt; carrier, 20);
+}
+
+#[test]
+fn a_log_is_read_and_written_as_it_was(rt: HostRuntime) {
+    let texts = [
+        "",
+        "b fix a 0\nn in a 0 0 ; rule spacing a b 2 0 1\nu 2\nn out a 0 0 ; rule spacing a b 2 0 1\nu 4\n",
+        "n ; ban zz 0 0\nn ;\nb split in 999999999\n",
+        "n in in 0 1 out n 2 2 in line 0 0 ; line 3 ban line 0 4 rule 2a+b-2c ban rule 7 u 4 1 2\n",
+    ];
+    for text in &texts {
+        let log = read_log(rt.alloc(), text.as_bytes()).expect(&rt, "a log");
+        let mut written = Vec::new(rt.alloc());
+        for line in log.lines() {
+            let line = line_text(rt.alloc(), line, log.names()).expect(&rt, "memory");
+            written
+                .extend_from_slice(line.as_slice())
+                .expect(&rt, "memory");
+        }
+        assert_eq!(rt; written.as_slice(), text.as_bytes());
+    }
+}
+
+#[test]
+fn the_first_line_outside_the_grammar_is_named(rt: HostRuntime) {
+    let cases = [
+        ("n in a 0 ;\n", 1),
+        ("u 1\nu 01\n", 2),
+        ("u 1\n\nu 1\n", 2),
+        ("n ; rule spacing a b 0 0 1", 1),
+        ("n ; rule spacing a b 3 0 1", 1),
+        ("b fix a 0\r\n", 1),
+        ("n ; line 1 \n", 1),
+        ("plans\n", 1),
+        ("spent\n", 1),
+        ("u 1\nrefuted\nplan\n?\n", 0),
+        ("u 1\nspent 12\n?\n", 0),
+    ];
+    for (text, line) in &cases {
+        let bad = match read_log(rt.alloc(), text.as_bytes()) {
+            Ok(_) => 0,
+            Err(LogText::BadLine { line }) => line,
+            Err(LogText::Memory) => 99,
+        };
+        assert_eq!(rt; bad, *line);
+    }
 }
