@@ -49,17 +49,28 @@ fn joined(problem: &Problem, mask: u64) -> bool
     problem.together(mask)
 }
 
+// The number of a carrier's channels, its last frequency, and whether its first channel is allowed.
+fn channels(problem: &Problem, carrier: usize) -> Option<(u32, u32, bool)> {
+    if carrier >= problem.carriers() {
+        return None;
+    }
+    let count = problem.count(carrier);
+    if count == 0 {
+        return None;
+    }
+    let last = problem.freq(carrier, count - 1);
+    Some((count, last, problem.allowed(carrier, 0)))
+}
+
 #[test]
 fn each_two_are_together_and_the_three_are_not(rt: HostRuntime) -> Result<(), Fail> {
     let show = three(rt.alloc()).ok_or("a show")?;
     let problem = problem_of(rt.alloc(), &show)?;
-    assert!(rt; problem.carriers() == 3);
     for carrier in 0..3 {
-        assert_eq!(rt; problem.count(carrier), 401);
+        assert_eq!(rt; channels(&problem, carrier), Some((401, 510_000, true)));
     }
+    assert!(rt; problem.carriers() == 3);
     assert!(rt; joined(&problem, 3) && joined(&problem, 5) && joined(&problem, 6));
     assert!(rt; !joined(&problem, 7));
-    assert_eq!(rt; problem.freq(2, 400), 510_000);
-    assert!(rt; problem.allowed(1, 0));
     Ok(())
 }
