@@ -14,9 +14,9 @@ use Rattle.rf_rules.specs.Conflicts.{conflict_of}
 use Rattle.rf_rules.specs.declared.analysis.Analysis.{Analysis}
 use Rattle.rf_rules.specs.declared.conflict.Conflict.{Conflict}
 use Rattle.rf_rules.specs.Tallies.{shown_of}
-use Rattle.rf_rules.specs.Analyses.{analysed, analysis, conflicts_of, is_off_grid, off_grid}
+use Rattle.rf_rules.specs.Analyses.{analysed, analysis, banned_carriers, conflicts_of, is_off_grid, off_grid, stands_banned}
 use Rattle.rf_rules.specs.Searches.{lane_of}
-use Rattle.rf_rules.specs.declared.conflict.Conflict.TheVariants.{OffGrid}
+use Rattle.rf_rules.specs.declared.conflict.Conflict.TheVariants.{Banned, OffGrid}
 use Rattle.rf_rules.specs.declared.lane.Lane.{Lane}
 use Rattle.rf_rules.proofs.TupleLemmas.{filter-few, found-all, found-none, length-upto, tuples-few, upto-suc, upto-zero}
 use Rattle.rf_rules.proofs.FormLemmas.{few-roles, nothing-asked}
@@ -63,14 +63,18 @@ parts-few : (show : ShowData) (ats : List (Option ℕ)) (some : List Kind) → l
 parts-few show ats [] h = omega arith
 parts-few show ats (kind ∷ some) h = omega (arith, length-append (conflicts_of show ats kind) (flat_map (conflicts_of show ats) some), conflicts-few show ats kind h, parts-few show ats some h)
 
+carriers-few : (f : ℕ → Conflict) (p : ℕ → Bool) (n : ℕ) → n ≤ 128 → length (map f (filter p (upto n))) ≤ 128
+carriers-few f p n h = omega (arith, length-map (filter p (upto n)) f, filter-few p (upto n), length-upto n, h)
+
 pub analysis-few : (show : ShowData) → length show.carriers ≤ 128 → length (analysis show) < 2 ^ 64 - 1
 analysis-few show h =
     let ats = ats_of show in
     let n : length ats ≤ 128 = omega (arith, length-map show.carriers (λ c. c.at), h) in
-    let off : ℕ → Bool = λ c. is_off_grid show c (at_in ats c) in
-    let few : length (off_grid show) ≤ 128 = omega (arith, length-map (filter off (upto (length show.carriers))) (λ c. OffGrid c), filter-few off (upto (length show.carriers)), length-upto (length show.carriers), h) in
+    let off : length (off_grid show) ≤ 128 = carriers-few (λ c. OffGrid c) (λ c. is_off_grid show c (at_in ats c)) (length show.carriers) h in
+    let banned : length (banned_carriers show) ≤ 128 = carriers-few (λ c. Banned c) (λ c. stands_banned show c (at_in ats c)) (length show.carriers) h in
     let rest : length (flat_map (conflicts_of show ats) kinds) ≤ length kinds * 128 ^ 4 = parts-few show ats kinds n in
-    omega (arith, length-append (off_grid show) (flat_map (conflicts_of show ats) kinds), few, rest)
+    let tail : length (banned_carriers show ++ flat_map (conflicts_of show ats) kinds) ≤ 128 + length kinds * 128 ^ 4 = omega (arith, length-append (banned_carriers show) (flat_map (conflicts_of show ats) kinds), banned, rest) in
+    omega (arith, length-append (off_grid show) (banned_carriers show ++ flat_map (conflicts_of show ats) kinds), off, tail)
 
 pub analysed-is : (show : ShowData) (shown : List Conflict) (total : ℕ) → shown ≡ shown_of (analysis show) → total ≡ length (analysis show) → ◌≡◌ {A = Analysis} (record { shown = shown; total = total }) (analysed show)
 analysed-is show shown total e f = cc

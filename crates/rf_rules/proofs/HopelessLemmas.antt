@@ -1,15 +1,16 @@
 -- Carriers with which no instance begins.
-use Rattle.std.proofs.Common.{◌≡◌, ◌<◌, ◌≤◌, ℕ, Bool, true, false, List, [], ◌∷◌, ◌++◌, length, get_or, refl, sym, ◌∙◌, arith}
+use Rattle.std.proofs.Common.{◌≡◌, ◌<◌, ◌≤◌, ℕ, Bool, true, false, List, [], ◌∷◌, ◌++◌, length, get_or, refl, ap, sym, ◌∙◌, arith}
 use Rattle.std.specs.Prelude.{Option, ◌&&◌, ◌||◌, ◌==◌, not, is_some, Some}
 use Rattle.std.specs.Bool.{OnTrue}
 use Rattle.std.specs.List.{list_all, list_any}
+use Rattle.std.proofs.lemmas.Bool.{true≢false}
 use Rattle.std.proofs.lemmas.Bool.Decides.{nat_tests}
 use Rattle.std.proofs.lemmas.List.{get_or_append_left, get_or_at}
 use Rattle.std.proofs.lemmas.List.Folds.{list_all-append, list_any-append}
 use Rattle.rf_terms.specs.declared.kind.Kind.{Kind}
 use Rattle.rf_show.specs.Show.{ShowData}
 use Rattle.rf_show.specs.Query.{is_together}
-use Rattle.rf_rules.specs.Instances.{are_assigned, at_in, is_candidate, is_distinct, is_in_order, is_instance, stands_in_order}
+use Rattle.rf_rules.specs.Instances.{are_assigned, at_in, is_candidate, is_open, is_distinct, is_in_order, is_instance, stands_in_order}
 
 and-false : (b : Bool) → (b && false) ≡ false
 and-false true = refl
@@ -51,6 +52,10 @@ no-candidate : (show : ShowData) (ats : List (Option ℕ)) (kind : Kind) (t : Li
 unfolding is_candidate
 no-candidate show ats kind t h = rw h (and-false (are_assigned ats t))
 
+not-assigned : (show : ShowData) (ats : List (Option ℕ)) (kind : Kind) (t : List ℕ) → are_assigned ats t ≡ false → is_candidate show ats kind t ≡ false
+unfolding is_candidate
+not-assigned show ats kind t h = rw h refl
+
 no-instance-distinct : (show : ShowData) (kind : Kind) (t : List ℕ) → is_distinct t ≡ false → is_instance show kind t ≡ false
 unfolding is_instance
 no-instance-distinct show kind t h = rw h
@@ -70,6 +75,57 @@ out-of_order i j c t u h e p =
     let a : get_or (t ++ c ∷ u) i 0 ≡ get_or t i 0 = get_or_append_left t (c ∷ u) 0 i h in
     let b : get_or (t ++ c ∷ u) j 0 ≡ c = get_or_at t c u 0 j (sym e) in
     rw (a, b) (grind (arith, nat_tests))
+
+-- ---- the last role, where the others are taken
+
+shuffle : (a d e c : Bool) → (not (a || (e || false)) && (d && not c)) ≡ ((not a && d) && not (e || c))
+shuffle true d e c = refl
+shuffle false true true c = refl
+shuffle false true false c = refl
+shuffle false false true c = refl
+shuffle false false false c = refl
+
+same-either : (a b : ℕ) → (a == b) ≡ (b == a)
+same-either a b = grind (arith, nat_tests)
+
+-- no carrier stands twice, with one more behind them
+distinct-push : (t : List ℕ) (c : ℕ) → is_distinct (t ++ c ∷ []) ≡ (is_distinct t && not (list_any (λ d. d == c) t))
+distinct-push [] c = refl
+distinct-push (x ∷ t) c =
+    let more : list_any (λ d. d == x) (t ++ c ∷ []) ≡ (list_any (λ d. d == x) t || ((x == c) || false)) = list_any-append (λ d. d == x) t (c ∷ []) ∙ ap (λ b. list_any (λ d. d == x) t || (b || false)) (same-either c x) in
+    rw (more, distinct-push t c) (shuffle (list_any (λ d. d == x) t) (is_distinct t) (x == c) (list_any (λ d. d == c) t))
+
+front-at : (x : ℕ) (t u : List ℕ) (a : Bool) → list_any (λ d. d == x) t ≡ a → (not a && is_distinct t) ≡ false → (is_distinct t ≡ false → is_distinct (t ++ u) ≡ false) → (not (list_any (λ d. d == x) (t ++ u)) && is_distinct (t ++ u)) ≡ false
+front-at x t u true e h next =
+    let any : list_any (λ d. d == x) (t ++ u) ≡ true = list_any-append (λ d. d == x) t u ∙ ap (λ b. b || list_any (λ d. d == x) u) e in
+    rw any refl
+front-at x t u false e h next = rw (next h) (and-false (not (list_any (λ d. d == x) (t ++ u))))
+
+distinct-front : (t u : List ℕ) → is_distinct t ≡ false → is_distinct (t ++ u) ≡ false
+distinct-front [] u h = absurd (true≢false h)
+distinct-front (x ∷ t) u h = front-at x t u (list_any (λ d. d == x) t) refl h (distinct-front t u)
+
+open-both : (a d : Bool) → (a && d) ≡ true → (a ≡ true) × (d ≡ true)
+open-both true true h = (refl, refl)
+open-both true false h = absurd (true≢false (sym h))
+open-both false d h = absurd (true≢false (sym h))
+
+-- an instance, as soon as the first roles are taken by carriers that are assigned and distinct
+pub last-joins : (show : ShowData) (ats : List (Option ℕ)) (kind : Kind) (t : List ℕ) (c : ℕ) → is_open ats t ≡ true → is_some (at_in ats c) ≡ true → list_any (λ d. d == c) t ≡ false → is_in_order kind (t ++ c ∷ []) ≡ true → is_together show (t ++ c ∷ []) ≡ is_candidate show ats kind (t ++ c ∷ [])
+unfolding is_candidate is_instance
+last-joins show ats kind t c h some once ordered =
+    let both = open-both (are_assigned ats t) (is_distinct t) h in
+    let a : are_assigned ats (t ++ c ∷ []) ≡ true = list_all-append (λ d. is_some (at_in ats d)) t (c ∷ []) ∙ rw (both.0, some) refl in
+    let d : is_distinct (t ++ c ∷ []) ≡ true = distinct-push t c ∙ rw (both.1, once) refl in
+    rw (a, d, ordered) refl
+
+-- no instance begins with carriers that are not assigned, or not distinct
+closed-at : (show : ShowData) (ats : List (Option ℕ)) (kind : Kind) (t u : List ℕ) (a : Bool) → are_assigned ats t ≡ a → (a && is_distinct t) ≡ false → is_candidate show ats kind (t ++ u) ≡ false
+closed-at show ats kind t u true e h = no-candidate show ats kind (t ++ u) (no-instance-distinct show kind (t ++ u) (distinct-front t u h))
+closed-at show ats kind t u false e h = not-assigned show ats kind (t ++ u) (list_all-append (λ d. is_some (at_in ats d)) t u ∙ ap (λ b. b && are_assigned ats u) e)
+
+pub closed : (show : ShowData) (ats : List (Option ℕ)) (kind : Kind) (t u : List ℕ) → is_open ats t ≡ false → is_candidate show ats kind (t ++ u) ≡ false
+closed show ats kind t u h = closed-at show ats kind t u (are_assigned ats t) refl h
 
 -- a fact in the case of true, from another
 pub on-true : (b : Bool) (P Q : Type 0) → (P → Q) → OnTrue b P → OnTrue b Q

@@ -8,3 +8,6 @@ pub mod AnalysisLemmas
 pub mod GroupLemmas
 pub mod ProductLemmas
 pub mod SizeLemmas
+pub mod MaskLemmas
+pub mod CompanyLemmas
+pub mod PlanLemmas

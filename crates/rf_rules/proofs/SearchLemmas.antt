@@ -1,19 +1,20 @@
 -- Lemmas on the search for broken instances.
-use Rattle.std.proofs.Common.{◌≡◌, ℕ, ℤ, suc, Bool, true, false, List, [], ◌∷◌, ◌++◌, length, refl, ap, sym, ◌∙◌, ◌≤◌, ◌<◌, ◌+◌, arith}
+use Rattle.std.proofs.Common.{◌≡◌, ℕ, ℤ, suc, Bool, true, false, List, [], ◌∷◌, ◌++◌, length, refl, ap, sym, ◌∙◌, ◌≤◌, ◌<◌, ◌+◌, ◌-◌, arith}
 use Rattle.std.specs.Prelude.{Option, ◌&&◌, nat_lt}
 use Rattle.std.proofs.lemmas.Grind.{elements}
-use Rattle.std.proofs.lemmas.List.{append_assoc}
+use Rattle.std.proofs.lemmas.List.{append_assoc, length-append, take_at}
 use Rattle.std.proofs.lemmas.Bool.Decides.{nat_tests}
 use Rattle.rf_terms.specs.declared.kind.Kind.{Kind}
 use Rattle.rf_show.specs.Show.{ShowData}
 use Rattle.rf_show.specs.Query.{margin_of}
 use Rattle.rf_rules.specs.Tuples.{upto, tuples}
-use Rattle.rf_rules.specs.Instances.{AreCarriers, distance_of, is_broken, is_candidate}
+use Rattle.rf_rules.specs.Instances.{AreCarriers, distance_of, is_broken, is_candidate, is_open}
 use Rattle.rf_rules.specs.Conflicts.{conflict_as, conflict_of, product_of, sources_of}
 use Rattle.rf_rules.specs.Tallies.{Extends}
 use Rattle.rf_rules.specs.Searches.{broken_in}
 use Rattle.rf_rules.specs.declared.search.Search.{Search}
 use Rattle.rf_rules.specs.declared.tally.Tally.{Tally}
+use Rattle.rf_rules.proofs.HopelessLemmas.{closed}
 use Rattle.rf_rules.proofs.TallyLemmas.{none-more, both-more, same-more}
 use Rattle.rf_rules.proofs.TupleLemmas.{begun, found-start, found-more, found-end, found-none, found-at_none, tuples-zero}
 
@@ -32,6 +33,12 @@ broken-near show ats kind t h = let e : nat_lt (distance_of ats kind t) (margin_
 pub broken-no_candidate : (show : ShowData) (ats : List (Option ℕ)) (kind : Kind) (t : List ℕ) → is_candidate show ats kind t ≡ false → is_broken show ats kind t ≡ false
 unfolding is_broken
 broken-no_candidate show ats kind t h = rw h (and-false (nat_lt (distance_of ats kind t) (margin_of show kind t)))
+
+-- nothing goes on from carriers with which no instance begins
+pub found-closed : (s : Search) (t : List ℕ) (k : ℕ) (a : Tally) → is_open s.ats.now t ≡ false → Extends a a (broken_in s t (tuples k (upto (length s.ats.now))))
+found-closed s t k a h =
+    let none : broken_in s t (tuples k (upto (length s.ats.now))) ≡ [] = found-none _ _ t (tuples k (upto (length s.ats.now))) (λ u. broken-no_candidate s.show.now s.ats.now s.kind (t ++ u) (closed s.show.now s.ats.now s.kind t u h)) in
+    same-more a a _ _ (sym none) (none-more a)
 
 -- one carrier more in the next role, after those below it
 pub step-more : (s : Search) (t : List ℕ) (k n i : ℕ) (a b c : Tally) → Extends a b (broken_in s t (begun k (upto n) (upto i))) → Extends b c (broken_in s (t ++ i ∷ []) (tuples k (upto n))) → Extends a c (broken_in s t (begun k (upto n) (upto (i + 1))))
@@ -65,3 +72,7 @@ AreCarriers-push ats t c h p = grind (arith, elements)
 pub conflict-is : (show : ShowData) (ats : List (Option ℕ)) (kind : Kind) (t : List ℕ) (product : ℤ) (distance needs : ℕ) → product ≡ product_of ats kind (sources_of t) → distance ≡ distance_of ats kind t → needs ≡ margin_of show kind t → conflict_as kind t product distance needs ≡ conflict_of show ats kind t
 unfolding conflict_of
 conflict-is show ats kind t product distance needs e f g = cc
+
+-- the carriers of all roles but the last
+pub sources-push : (t : List ℕ) (c : ℕ) → t ≡ sources_of (t ++ c ∷ [])
+sources-push t c = sym (take_at t (c ∷ []) (length (t ++ c ∷ []) - 1) (omega (arith, length-append t (c ∷ []))))

@@ -41,6 +41,10 @@ at_in ats c = slice_index_or ats c None
 abbrev pub are_assigned : List (Option ℕ) → List ℕ → Bool
 are_assigned ats t = list_all (λ c. is_some (at_in ats c)) t
 
+-- carriers that have frequencies, none of which stands twice
+abbrev pub is_open : List (Option ℕ) → List ℕ → Bool
+is_open ats t = are_assigned ats t && is_distinct t
+
 -- a carrier's frequency, and 0 where it has none
 abbrev pub khz_in : List (Option ℕ) → ℕ → ℕ
 khz_in ats c = unwrap_or (at_in ats c) 0

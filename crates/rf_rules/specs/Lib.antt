@@ -1,7 +1,9 @@
 pub mod Tuples
 pub mod Instances
 pub mod Conflicts
+pub mod Companies
 pub mod Analyses
 pub mod Tallies
 pub mod Searches
 pub mod Products
+pub mod Plans

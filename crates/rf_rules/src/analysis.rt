@@ -3,9 +3,11 @@ ghost use Rattle.std.specs.List.{flat_map};
 ghost use Rattle.rf_terms.specs.Kinds.{kinds};
 ghost use Rattle.rf_rules.specs.Instances.{ats_of};
 ghost use Rattle.rf_rules.specs.Analyses as analyses;
-ghost use Rattle.rf_rules.specs.Analyses.{analysed, analysis, conflicts_of, off_grid};
+ghost use Rattle.rf_rules.specs.Analyses.{analysed, analysis, banned_carriers, conflicts_of, off_grid};
+ghost use Rattle.rf_rules.specs.Companies.{IsCompany};
 ghost use Rattle.rf_rules.specs.Tallies.{Extends};
 
+use crate::company::Company;
 use crate::conflict::Conflict;
 use crate::frequencies::{assigned, at};
 use crate::lane::{ask_nothing, make_lanes};
@@ -18,9 +20,9 @@ use std::alloc::Global;
 
 /// What is reported of a show: the first 10,000 of its conflicts, and how many it has.
 ///
-/// The conflicts are the assigned carriers that are off their grid, in the order of the show; then, for each kind in the
-/// order of the rule table, its broken instances over assigned carriers, by the carrier of the first role, then by that of
-/// the second, and so on.
+/// The conflicts are the assigned carriers that are off their grid, in the order of the show; the assigned carriers whose
+/// frequency is banned for them, in that order; then, for each kind in the order of the rule table, its broken instances
+/// over assigned carriers, by the carrier of the first role, then by that of the second, and so on.
 #[derive(Drop)]
 pub struct Analysis {
     pub shown: Items<Conflict>,
@@ -35,7 +37,9 @@ pub fn analyse(alloc: Global, show: &Show) -> Result<Analysis, NoMemory>
     let ats = &ats[..show.carriers().len()];
     let mut tally = Tally::new(alloc);
     add_off_grid(show, ats, &mut tally)?;
-    add_broken(show, ats, &mut tally)?;
+    add_banned(show, ats, &mut tally)?;
+    let company = Company::of(alloc, show)?;
+    add_broken(&company, ats, &mut tally)?;
     Ok(Analysis {
         shown: Items::from_vec(tally.shown),
         total: tally.total,
@@ -66,22 +70,54 @@ fn is_off_grid(show: &Show, carrier: usize, at: Option<Khz>) -> bool
     }
 }
 
-/// Adds the broken instances of all kinds.
-fn add_broken(show: &Show, ats: &[Option<Khz>], tally: &mut Tally) -> Result<(), NoMemory>
+/// Adds the assigned carriers whose frequency is banned.
+fn add_banned(show: &Show, ats: &[Option<Khz>], tally: &mut Tally) -> Result<(), NoMemory>
     requires { ats.now ≡ ats_of show.now }
-    ensures { OnOk result (Extends tally.old tally.new (flat_map (conflicts_of show.now ats.now) kinds)) }
+    ensures { OnOk result (Extends tally.old tally.new (banned_carriers show.now)) }
+{
+    for carrier in 0..ats.len() {
+        if !stands_banned(show, carrier, at(ats, carrier)) {
+            continue;
+        }
+        tally.add(Conflict::Banned { carrier })?;
+    }
+    Ok(())
+}
+
+fn stands_banned(show: &Show, carrier: usize, at: Option<Khz>) -> bool
+    requires { carrier < length show.now.carriers }
+    ensures { result ≡ analyses.stands_banned show.now carrier at }
+{
+    match at {
+        Some(khz) => show.banned(carrier, khz),
+        None => false,
+    }
+}
+
+/// Adds the broken instances of all kinds.
+fn add_broken(company: &Company, ats: &[Option<Khz>], tally: &mut Tally) -> Result<(), NoMemory>
+    requires known { IsCompany company.now }
+    requires carriers { ats.now ≡ ats_of company.now.show.now }
+    ensures { OnOk result (Extends tally.old tally.new (flat_map (conflicts_of company.now.show.now ats.now) kinds)) }
 {
     for kind in kinds() {
-        add_kind(show, ats, *kind, tally)?;
+        add_kind(company, ats, *kind, tally)?;
     }
     Ok(())
 }
 
 /// Adds the broken instances of a kind.
-fn add_kind(show: &Show, ats: &[Option<Khz>], kind: Kind, tally: &mut Tally) -> Result<(), NoMemory>
-    requires { length ats.now ≡ length show.now.carriers }
-    ensures { OnOk result (Extends tally.old tally.new (conflicts_of show.now ats.now kind)) }
+fn add_kind(
+    company: &Company,
+    ats: &[Option<Khz>],
+    kind: Kind,
+    tally: &mut Tally,
+) -> Result<(), NoMemory>
+    requires known { IsCompany company.now }
+    requires carriers { length ats.now ≡ length company.now.show.now.carriers }
+    ensures { OnOk result (Extends tally.old tally.new (conflicts_of company.now.show.now ats.now kind)) }
 {
+    let show = company.show;
     let lanes = make_lanes(show, ats, kind);
     let lanes = &lanes[..ats.len()];
     if ask_nothing(lanes) {
@@ -94,5 +130,5 @@ fn add_kind(show: &Show, ats: &[Option<Khz>], kind: Kind, tally: &mut Tally) -> 
         coefficients: coefficients(kind),
         lanes,
     };
-    search.extend([0; 4], 0, 0, tally)
+    search.extend(company, [0; 4], 0, 0, tally)
 }

@@ -1,21 +1,24 @@
-ghost use Rattle.std.specs.Prelude.{◌≡◌, ◌∷◌, ◌++◌, List, ℕ, All, ◌<◌, ◌≤◌, false, length};
+ghost use Rattle.std.specs.Prelude.{◌≡◌, ◌∷◌, ◌++◌, ◌+◌, [], List, ℕ, All, ◌<◌, ◌≤◌, false, length, slice_index_or};
 ghost use Rattle.std.specs.Bool.{OnTrue};
 ghost use Rattle.rf_rules.specs.Instances as instances;
+ghost use Rattle.rf_rules.specs.Companies.{IsCompany};
 
-use rf_show::Show;
+use crate::company::Company;
 use rf_terms::{Kind, order};
 
 /// The carriers are distinct, stand in the order of the kind's roles, and are together.
 #[tactic(auto, unfolding(crate::specs::Instances::is_instance))]
-pub fn is_instance(show: &Show, kind: Kind, t: &[usize]) -> bool
+pub fn is_instance(company: &Company, kind: Kind, t: &[usize]) -> bool
+    requires known { IsCompany company.now }
     requires roles { instances.ordered_roles kind ≤ length t.now }
-    requires taken { All (λ c. c < length show.now.carriers) t.now }
-    ensures { result ≡ instances.is_instance show.now kind t.now }
+    requires taken { All (λ c. c < length company.now.show.now.carriers) t.now }
+    ensures { result ≡ instances.is_instance company.now.show.now kind t.now }
 {
-    is_distinct(t) && is_in_order(kind, t) && show.together(t)
+    is_distinct(t) && is_in_order(kind, t) && company.together(t)
 }
 
-fn is_distinct(t: &[usize]) -> bool
+/// No carrier stands twice.
+pub fn is_distinct(t: &[usize]) -> bool
     ensures { result ≡ instances.is_distinct t.now }
 {
     match t {
@@ -24,7 +27,8 @@ fn is_distinct(t: &[usize]) -> bool
     }
 }
 
-fn is_in_order(kind: Kind, t: &[usize]) -> bool
+/// The carriers stand in the order of the kind's roles.
+pub fn is_in_order(kind: Kind, t: &[usize]) -> bool
     requires { instances.ordered_roles kind ≤ length t.now }
     ensures { result ≡ instances.is_in_order kind t.now }
 {
@@ -32,6 +36,27 @@ fn is_in_order(kind: Kind, t: &[usize]) -> bool
         None => true,
         Some((i, j)) => t[i] < t[j],
     }
+}
+
+/// The carriers and one more behind them stand in the order of the kind's roles.
+pub fn ends_in_order(kind: Kind, t: &[usize], last: usize) -> bool
+    requires { instances.ordered_roles kind ≤ length t.now + 1 }
+    ensures { result ≡ instances.is_in_order kind (t.now ++ last ∷ []) }
+{
+    match order(kind) {
+        None => true,
+        Some((i, j)) => role(t, last, i) < role(t, last, j),
+    }
+}
+
+fn role(t: &[usize], last: usize, i: usize) -> usize
+    requires { i ≤ length t.now }
+    ensures { result ≡ slice_index_or (t.now ++ last ∷ []) i 0 }
+{
+    if i < t.len() {
+        return t[i];
+    }
+    last
 }
 
 /// The carrier stands before one that it has to follow.

@@ -3,10 +3,14 @@
 
 mod analysis;
 mod arithmetic;
+mod breaks;
+mod company;
 mod conflict;
 mod frequencies;
 mod instance;
 mod lane;
+mod mask;
+mod plan;
 mod product;
 mod product_list;
 mod search;
@@ -17,5 +21,6 @@ mod tests;
 
 pub use analysis::{Analysis, analyse};
 pub use conflict::Conflict;
+pub use plan::keeps;
 pub use product::{Product, Products};
 pub use product_list::products;

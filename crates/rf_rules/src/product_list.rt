@@ -2,8 +2,10 @@ ghost use Rattle.std.specs.Prelude.{◌≡◌, ◌++◌, ◌<◌, IfOk, OnOk, le
 ghost use Rattle.std.specs.List.{flat_map};
 ghost use Rattle.rf_terms.specs.Kinds.{kinds, roles_of};
 ghost use Rattle.rf_rules.specs.Instances.{ats_of};
+ghost use Rattle.rf_rules.specs.Companies.{IsCompany};
 ghost use Rattle.rf_rules.specs.Products.{listed, noted_of};
 
+use crate::company::Company;
 use crate::frequencies::assigned;
 use crate::lane::make_lanes;
 use crate::product::{Product, Products, sort_by_size};
@@ -21,8 +23,9 @@ pub fn products(alloc: Global, show: &Show, lo: Khz, hi: Khz) -> Result<Products
 {
     let ats = assigned(show);
     let ats = &ats[..show.carriers().len()];
+    let company = Company::of(alloc, show)?;
     let mut found = Vec::new(alloc);
-    add_products(show, ats, lo, hi, &mut found)?;
+    add_products(&company, ats, lo, hi, &mut found)?;
     sort_by_size(&mut found)?;
     let total = found.len() as u64;
     found.truncate(Tally::MAX_SHOWN);
@@ -34,36 +37,39 @@ pub fn products(alloc: Global, show: &Show, lo: Khz, hi: Khz) -> Result<Products
 
 /// Adds the products from `lo` to `hi` of all kinds that have a victim.
 fn add_products(
-    show: &Show,
+    company: &Company,
     ats: &[Option<Khz>],
     lo: Khz,
     hi: Khz,
     found: &mut Vec<Product>,
 ) -> Result<(), NoMemory>
-    requires { length ats.now ≡ length show.now.carriers }
-    ensures { OnOk result (found.new.items ≡ found.old.items ++ flat_map (noted_of show.now ats.now lo hi) kinds) }
+    requires known { IsCompany company.now }
+    requires carriers { length ats.now ≡ length company.now.show.now.carriers }
+    ensures { OnOk result (found.new.items ≡ found.old.items ++ flat_map (noted_of company.now.show.now ats.now lo hi) kinds) }
 {
     for kind in kinds() {
-        add_kind(show, ats, *kind, lo, hi, found)?;
+        add_kind(company, ats, *kind, lo, hi, found)?;
     }
     Ok(())
 }
 
 /// Adds the products from `lo` to `hi` of a kind, if it has a victim.
 fn add_kind(
-    show: &Show,
+    company: &Company,
     ats: &[Option<Khz>],
     kind: Kind,
     lo: Khz,
     hi: Khz,
     found: &mut Vec<Product>,
 ) -> Result<(), NoMemory>
-    requires { length ats.now ≡ length show.now.carriers }
-    ensures { OnOk result (found.new.items ≡ found.old.items ++ noted_of show.now ats.now lo hi kind) }
+    requires known { IsCompany company.now }
+    requires carriers { length ats.now ≡ length company.now.show.now.carriers }
+    ensures { OnOk result (found.new.items ≡ found.old.items ++ noted_of company.now.show.now ats.now lo hi kind) }
 {
     if roles(kind) <= 2 {
         return Ok(());
     }
+    let show = company.show;
     let lanes = make_lanes(show, ats, kind);
     let search = Search {
         show,
@@ -72,5 +78,5 @@ fn add_kind(
         coefficients: coefficients(kind),
         lanes: &lanes[..ats.len()],
     };
-    search.sources([0; 4], 0, 0, lo, hi, found)
+    search.sources(company, [0; 4], 0, 0, lo, hi, found)
 }

@@ -1,22 +1,28 @@
-ghost use Rattle.std.specs.Prelude.{◌≡◌, ◌+◌, ◌-◌, ◌<◌, ◌≤◌, ◌++◌, ◌∷◌, [], OnOk, length, take, ℕ, List, false, pos, replicate, unsigned_abs};
+ghost use Rattle.std.specs.Prelude.{◌≡◌, ◌+◌, ◌-◌, ◌<◌, ◌≤◌, ◌++◌, ◌∷◌, [], OnOk, length, take, ℕ, List, true, false, pos, replicate, unsigned_abs};
 ghost use Rattle.std.specs.Bool.{OnTrue};
 ghost use Rattle.std.specs.List.{list_all};
 ghost use Rattle.rf_terms.specs.Kinds.{roles_of};
-ghost use Rattle.rf_rules.specs.Instances.{AreCarriers, are_assigned, distance_of, is_candidate, khz_in, ordered_roles};
+ghost use Rattle.rf_rules.specs.Instances.{AreCarriers, are_assigned, distance_of, is_candidate, is_open, khz_in, ordered_roles};
 ghost use Rattle.rf_rules.specs.Conflicts.{conflict_as};
 ghost use Rattle.rf_rules.specs.Tallies.{Extends};
 ghost use Rattle.rf_rules.specs.Searches.{IsReady, floor_of, broken_in, found, partial_of};
-ghost use Rattle.rf_show.specs.Query.{margin_of};
+ghost use Rattle.rf_rules.specs.Companies.{IsCompany};
+ghost use Rattle.rf_show.specs.Company.{has_bit};
+ghost use Rattle.rf_show.specs.Limits.{most_carriers};
+ghost use Rattle.rf_show.specs.Query.{is_together, margin_of};
 
 use crate::arithmetic::{sum, term};
+use crate::company::Company;
 use crate::conflict::Conflict;
 use crate::frequencies::{at, khz_of};
-use crate::instance::{is_instance, is_out_of_order};
+use crate::instance::{ends_in_order, is_distinct, is_instance, is_out_of_order};
 use crate::lane::Lane;
+use crate::mask::has;
 use crate::tally::Tally;
 use rf_base::{Khz, NoMemory};
 use rf_show::Show;
 use rf_terms::Kind;
+use rf_zones::Mask;
 
 /// The search for the broken instances of one kind.
 #[derive(Drop)]
@@ -32,19 +38,22 @@ impl Search<'_> {
     /// Adds the broken instances whose first roles are taken by `roles[..depth]`.
     pub fn extend(
         &self,
+        company: &Company,
         roles: [usize; 4],
         depth: usize,
         product: i64,
         tally: &mut Tally,
     ) -> Result<(), NoMemory>
         requires ready { IsReady self.now }
+        requires known { IsCompany company.now }
+        requires same { company.now.show.now ≡ self.now.show.now }
         requires depth { depth < roles_of self.now.kind }
         requires product { product ≡ partial_of self.now (take depth roles) }
         requires taken { AreCarriers self.now.ats.now (take depth roles) }
         ensures { OnOk result (Extends tally.old tally.new (found self.now (take depth roles) (roles_of self.now.kind - depth))) }
     {
         if depth + 1 == self.coefficients.len() {
-            return self.victims(roles, depth, product, tally);
+            return self.victims(company, roles, depth, product, tally);
         }
         for carrier in 0..self.ats.len() {
             if self.is_hopeless(&roles[..depth], carrier) {
@@ -53,7 +62,7 @@ impl Search<'_> {
             let next = self.with(&roles[..depth], carrier, product);
             let mut more = roles;
             more[depth] = carrier;
-            self.extend(more, depth + 1, next, tally)?;
+            self.extend(company, more, depth + 1, next, tally)?;
         }
         Ok(())
     }
@@ -61,76 +70,113 @@ impl Search<'_> {
     /// Adds the broken instances whose roles but for the last are taken by `roles[..depth]`.
     fn victims(
         &self,
+        company: &Company,
         roles: [usize; 4],
         depth: usize,
         product: i64,
         tally: &mut Tally,
     ) -> Result<(), NoMemory>
         requires ready { IsReady self.now }
+        requires known { IsCompany company.now }
+        requires same { company.now.show.now ≡ self.now.show.now }
         requires depth { depth + 1 ≡ roles_of self.now.kind }
         requires product { product ≡ partial_of self.now (take depth roles) }
         requires taken { AreCarriers self.now.ats.now (take depth roles) }
         ensures { OnOk result (Extends tally.old tally.new (found self.now (take depth roles) 1)) }
     {
+        let t = &roles[..depth];
+        if !self.is_open(t) {
+            return Ok(());
+        }
+        let mates = company.mates(t);
         let floor = self.floor(roles[0]);
         for carrier in 0..self.ats.len() {
-            let distance = self.distance(&roles[..depth], carrier, product);
+            let distance = self.distance(t, carrier, product);
             let needs = floor.max(self.lanes[carrier].needs);
             if distance >= u64::from(needs) {
                 continue;
             }
-            let mut all = roles;
-            all[depth] = carrier;
-            self.judge(&all[..depth + 1], product, distance as u32, needs, tally)?;
+            self.judge(t, carrier, mates, product, distance as u32, needs, tally)?;
         }
         Ok(())
     }
 
-    /// Adds an instance that is near.
+    /// Adds an instance that is near. `mates` has the carriers that are together with those of the first roles.
     fn judge(
         &self,
         t: &[usize],
+        last: usize,
+        mates: Mask,
         product: i64,
         distance: u32,
         needs: u32,
         tally: &mut Tally,
     ) -> Result<(), NoMemory>
-        requires ready { IsReady self.now }
-        requires roles { length t.now ≡ roles_of self.now.kind }
-        requires taken { AreCarriers self.now.ats.now t.now }
-        requires product { product ≡ partial_of self.now (take (length t.now - 1) t.now) }
-        requires distance { distance ≡ distance_of self.now.ats.now self.now.kind t.now }
-        requires needs { needs ≡ margin_of self.now.show.now self.now.kind t.now }
+        requires roles { length t.now + 1 ≡ roles_of self.now.kind }
+        requires carriers { length self.now.ats.now ≤ most_carriers }
+        requires there { last < length self.now.ats.now }
+        requires opened { is_open self.now.ats.now t.now ≡ true }
+        requires mates { has_bit mates last ≡ is_together self.now.show.now (t.now ++ last ∷ []) }
+        requires product { product ≡ partial_of self.now t.now }
+        requires distance { distance ≡ distance_of self.now.ats.now self.now.kind (t.now ++ last ∷ []) }
+        requires needs { needs ≡ margin_of self.now.show.now self.now.kind (t.now ++ last ∷ []) }
         requires near { distance < needs }
-        ensures { OnOk result (Extends tally.old tally.new (broken_in self.now t.now ([] ∷ []))) }
+        ensures { OnOk result (Extends tally.old tally.new (broken_in self.now (t.now ++ last ∷ []) ([] ∷ []))) }
     {
-        if !self.is_candidate(t) {
+        if !self.joins(t, last, mates) {
             return Ok(());
         }
         if tally.is_full() {
             tally.count();
             return Ok(());
         }
-        tally.add(self.conflict(t, product, distance, needs))
+        tally.add(self.conflict(t, last, product, distance, needs))
     }
 
-    fn conflict(&self, t: &[usize], product: i64, distance: u32, needs: u32) -> Conflict
-        requires { length t.now ≡ roles_of self.now.kind }
-        ensures { result ≡ conflict_as self.now.kind t.now product distance needs }
+    /// An instance of assigned carriers, as soon as those of the first roles are assigned and distinct.
+    fn joins(&self, t: &[usize], last: usize, mates: Mask) -> bool
+        requires roles { length t.now + 1 ≡ roles_of self.now.kind }
+        requires carriers { length self.now.ats.now ≤ most_carriers }
+        requires there { last < length self.now.ats.now }
+        requires opened { is_open self.now.ats.now t.now ≡ true }
+        requires mates { has_bit mates last ≡ is_together self.now.show.now (t.now ++ last ∷ []) }
+        ensures { result ≡ is_candidate self.now.show.now self.now.ats.now self.now.kind (t.now ++ last ∷ []) }
+    {
+        if at(self.ats, last).is_none() {
+            return false;
+        }
+        if t.contains(&last) {
+            return false;
+        }
+        if !ends_in_order(self.kind, t, last) {
+            return false;
+        }
+        has(mates, last)
+    }
+
+    fn conflict(
+        &self,
+        t: &[usize],
+        last: usize,
+        product: i64,
+        distance: u32,
+        needs: u32,
+    ) -> Conflict
+        requires { length t.now + 1 ≡ roles_of self.now.kind }
+        ensures { result ≡ conflict_as self.now.kind (t.now ++ last ∷ []) product distance needs }
     {
         let kind = self.kind;
-        let last = t.len() - 1;
         match kind {
             Kind::Spacing => Conflict::Spacing {
                 a: t[0],
-                b: t[1],
+                b: last,
                 distance,
                 needs,
             },
             _ => Conflict::Product {
                 kind,
-                sources: padded(&t[..last]),
-                victim: t[last],
+                sources: padded(t),
+                victim: last,
                 product,
                 distance,
                 needs,
@@ -151,7 +197,7 @@ impl Search<'_> {
 
     /// How far from 0 the form is, with the last role taken.
     #[inline]
-    fn distance(&self, t: &[usize], carrier: usize, product: i64) -> u64
+    pub fn distance(&self, t: &[usize], carrier: usize, product: i64) -> u64
         requires ready { IsReady self.now }
         requires depth { length t.now + 1 ≡ roles_of self.now.kind }
         requires carrier { carrier < length self.now.ats.now }
@@ -162,7 +208,7 @@ impl Search<'_> {
     }
 
     /// What the first role's carrier asks.
-    fn floor(&self, carrier: usize) -> u32
+    pub fn floor(&self, carrier: usize) -> u32
         requires ready { IsReady self.now }
         requires carrier { carrier < length self.now.ats.now }
         ensures { result ≡ floor_of self.now.show.now self.now.kind carrier }
@@ -197,17 +243,28 @@ impl Search<'_> {
 
     /// An instance of assigned carriers.
     #[tactic(auto, unfolding(crate::specs::Instances::is_candidate))]
-    pub fn is_candidate(&self, t: &[usize]) -> bool
+    pub fn is_candidate(&self, company: &Company, t: &[usize]) -> bool
         requires ready { IsReady self.now }
+        requires known { IsCompany company.now }
+        requires same { company.now.show.now ≡ self.now.show.now }
         requires roles { ordered_roles self.now.kind ≤ length t.now }
         requires taken { AreCarriers self.now.ats.now t.now }
         ensures { result ≡ is_candidate self.now.show.now self.now.ats.now self.now.kind t.now }
     {
-        are_assigned(self.ats, t) && is_instance(self.show, self.kind, t)
+        are_assigned(self.ats, t) && is_instance(company, self.kind, t)
+    }
+
+    /// The carriers are assigned and distinct.
+    fn is_open(&self, t: &[usize]) -> bool
+        requires { AreCarriers self.now.ats.now t.now }
+        ensures { result ≡ is_open self.now.ats.now t.now }
+    {
+        are_assigned(self.ats, t) && is_distinct(t)
     }
 }
 
-fn are_assigned(ats: &[Option<Khz>], t: &[usize]) -> bool
+/// The carriers have frequencies.
+pub fn are_assigned(ats: &[Option<Khz>], t: &[usize]) -> bool
     requires { AreCarriers ats.now t.now }
     ensures { result ≡ are_assigned ats.now t.now }
 {

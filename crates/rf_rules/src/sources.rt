@@ -3,7 +3,9 @@ ghost use Rattle.rf_terms.specs.Kinds.{roles_of};
 ghost use Rattle.rf_rules.specs.Instances.{AreCarriers};
 ghost use Rattle.rf_rules.specs.Searches.{IsReady, partial_of};
 ghost use Rattle.rf_rules.specs.Products.{noted, noted_in};
+ghost use Rattle.rf_rules.specs.Companies.{IsCompany};
 
+use crate::company::Company;
 use crate::product::{Product, is_between};
 use crate::search::{Search, padded};
 use rf_base::{Khz, NoMemory};
@@ -12,6 +14,7 @@ impl Search<'_> {
     /// Adds the products from `lo` to `hi` whose first sources are `roles[..depth]`.
     pub fn sources(
         &self,
+        company: &Company,
         roles: [usize; 4],
         depth: usize,
         product: i64,
@@ -20,6 +23,8 @@ impl Search<'_> {
         found: &mut Vec<Product>,
     ) -> Result<(), NoMemory>
         requires ready { IsReady self.now }
+        requires known { IsCompany company.now }
+        requires same { company.now.show.now ≡ self.now.show.now }
         requires victim { 2 < roles_of self.now.kind }
         requires depth { depth < roles_of self.now.kind }
         requires product { product ≡ partial_of self.now (take depth roles) }
@@ -27,7 +32,7 @@ impl Search<'_> {
         ensures { OnOk result (found.new.items ≡ found.old.items ++ noted self.now lo hi (take depth roles) (roles_of self.now.kind - 1 - depth)) }
     {
         if depth + 1 == self.coefficients.len() {
-            return self.note(&roles[..depth], product, lo, hi, found);
+            return self.note(company, &roles[..depth], product, lo, hi, found);
         }
         for carrier in 0..self.ats.len() {
             if self.is_hopeless(&roles[..depth], carrier) {
@@ -36,7 +41,7 @@ impl Search<'_> {
             let next = self.with(&roles[..depth], carrier, product);
             let mut more = roles;
             more[depth] = carrier;
-            self.sources(more, depth + 1, next, lo, hi, found)?;
+            self.sources(company, more, depth + 1, next, lo, hi, found)?;
         }
         Ok(())
     }
@@ -44,6 +49,7 @@ impl Search<'_> {
     /// Adds the product of these sources, if it lies from `lo` to `hi`.
     fn note(
         &self,
+        company: &Company,
         t: &[usize],
         product: i64,
         lo: Khz,
@@ -51,6 +57,8 @@ impl Search<'_> {
         found: &mut Vec<Product>,
     ) -> Result<(), NoMemory>
         requires ready { IsReady self.now }
+        requires known { IsCompany company.now }
+        requires same { company.now.show.now ≡ self.now.show.now }
         requires victim { 2 < roles_of self.now.kind }
         requires roles { length t.now + 1 ≡ roles_of self.now.kind }
         requires product { product ≡ partial_of self.now t.now }
@@ -60,7 +68,7 @@ impl Search<'_> {
         if !is_between(lo, hi, product) {
             return Ok(());
         }
-        if !self.is_candidate(t) {
+        if !self.is_candidate(company, t) {
             return Ok(());
         }
         found.push(Product {

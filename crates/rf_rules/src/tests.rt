@@ -1,7 +1,7 @@
 ghost use Rattle.std.specs.Prelude.{IsTrue};
 ghost use Rattle.rf_show.specs.After.{is_edit};
 
-use crate::{Conflict, analyse, products};
+use crate::{Conflict, analyse, keeps, products};
 use rf_base::{Khz, Name};
 use rf_show::{Edit, Show};
 use rf_terms::text;
@@ -24,8 +24,25 @@ fn change(show: &mut Show, edit: Edit) -> Result<(), Fail>
     Ok(())
 }
 
-/// A show of carriers `a`, `b` and so on at these frequencies.
-fn show_at(alloc: Global, numbers: [u32; 9], khzs: &[u32]) -> Result<Show, Fail> {
+/// A small show: carriers `a`, `b` and so on of one profile at these frequencies, intervals of carriers, and a ban.
+#[derive(Clone, Copy)]
+struct Small {
+    numbers: [u32; 9],
+    khzs: &'static [u32],
+    times: &'static [(u8, u32, u32)],
+    ban: Option<(u32, u32)>,
+}
+
+const fn at(numbers: [u32; 9], khzs: &'static [u32]) -> Small {
+    Small {
+        numbers,
+        khzs,
+        times: &[],
+        ban: None,
+    }
+}
+
+fn make(alloc: Global, small: Small) -> Result<Show, Fail> {
     let mut show = Show::new(alloc)?;
     let profile = name(b"P")?;
     let zone = name(b"main")?;
@@ -33,11 +50,11 @@ fn show_at(alloc: Global, numbers: [u32; 9], khzs: &[u32]) -> Result<Show, Fail>
         &mut show,
         Edit::AddProfile {
             name: profile,
-            numbers,
+            numbers: small.numbers,
         },
     )?;
     let mut letter = b'a';
-    for khz in khzs {
+    for khz in small.khzs {
         let name = name(&[letter])?;
         change(
             &mut show,
@@ -49,6 +66,20 @@ fn show_at(alloc: Global, numbers: [u32; 9], khzs: &[u32]) -> Result<Show, Fail>
         )?;
         change(&mut show, Edit::SetAt { name, khz: *khz })?;
         letter = letter.wrapping_add(1);
+    }
+    for (letter, from, to) in small.times {
+        let name = name(&[*letter])?;
+        change(
+            &mut show,
+            Edit::AddTime {
+                name,
+                from: *from,
+                to: *to,
+            },
+        )?;
+    }
+    if let Some((lo, hi)) = small.ban {
+        change(&mut show, Edit::AddBan { lo, hi, zone: None })?;
     }
     Ok(show)
 }
@@ -79,8 +110,8 @@ fn words(alloc: Global, conflict: Conflict) -> Result<String, Fail> {
     })
 }
 
-fn report(alloc: Global, numbers: [u32; 9], khzs: &[u32]) -> Result<String, Fail> {
-    let show = show_at(alloc, numbers, khzs)?;
+fn report(alloc: Global, small: Small) -> Result<String, Fail> {
+    let show = make(alloc, small)?;
     let analysis = analyse(alloc, &show)?;
     let mut lines = String::new(alloc);
     for conflict in analysis.shown.as_slice() {
@@ -93,50 +124,10 @@ fn report(alloc: Global, numbers: [u32; 9], khzs: &[u32]) -> Result<String, Fail
     Ok(lines)
 }
 
-#[test]
-fn reports_of_small_shows(rt: HostRuntime) -> Result<(), Fail> {
-    let alloc = rt.alloc();
-    let even = report(alloc, P, &[500000, 500400, 500800])?;
-    assert_eq!(rt;
-        even.as_str(),
-        "2a-b 1 0 0 hits 2 at 500800 0 100\n2a-b 1 2 0 hits 0 at 500000 0 100\nconflicts 2\n"
-    );
-    let at_the_margin = report(alloc, P, &[500000, 500400, 500900])?;
-    assert_eq!(rt; at_the_margin.as_str(), "conflicts 0\n");
-    let near = report(alloc, P, &[500000, 500400, 500875])?;
-    assert_eq!(rt;
-        near.as_str(),
-        "2a-b 1 0 0 hits 2 at 500800 75 100\n2a-b 1 2 0 hits 0 at 499925 75 100\nconflicts 2\n"
-    );
-    let four = report(alloc, P, &[500000, 501000, 503000, 504000])?;
-    assert_eq!(rt;
-        four.as_str(),
-        "a+b-c 0 3 1 hits 2 at 503000 0 50\na+b-c 0 3 2 hits 1 at 501000 0 50\na+b-c 1 2 0 hits 3 at 504000 0 50\na+b-c 1 2 3 hits 0 at 500000 0 50\nconflicts 4\n"
-    );
-    let fifth = report(alloc, Q, &[500000, 500400, 501200])?;
-    assert_eq!(rt;
-        fifth.as_str(),
-        "3a-2b 1 0 0 hits 2 at 501200 0 100\nconflicts 1\n"
-    );
-    let no_margin = report(alloc, P, &[500000, 500400, 501200])?;
-    assert_eq!(rt; no_margin.as_str(), "conflicts 0\n");
-    let off_grid = report(alloc, P, &[500010, 500400, 500800])?;
-    assert_eq!(rt;
-        off_grid.as_str(),
-        "off-grid 0\n2a-b 1 0 0 hits 2 at 500790 10 100\n2a-b 1 2 0 hits 0 at 500000 10 100\nconflicts 3\n"
-    );
-    let same = report(alloc, P, &[500000, 500000])?;
-    assert_eq!(rt; same.as_str(), "spacing 0 1 0 350\nconflicts 1\n");
-    Ok(())
-}
-
-#[test]
-fn products_of_three_carriers(rt: HostRuntime) -> Result<(), Fail> {
-    let alloc = rt.alloc();
-    let show = show_at(alloc, P, &[500000, 500400, 500800])?;
+fn product_lines(alloc: Global, show: &Show) -> Result<String, Fail> {
     let lo = Khz::new(500700).ok_or(1u32)?;
-    let hi = Khz::new(500900).ok_or(1u32)?;
-    let listed = products(alloc, &show, lo, hi)?;
+    let hi = Khz::new(500800).ok_or(1u32)?;
+    let listed = products(alloc, show, lo, hi)?;
     let mut lines = String::new(alloc);
     for product in listed.shown.as_slice() {
         let value = product.value;
@@ -145,7 +136,117 @@ fn products_of_three_carriers(rt: HostRuntime) -> Result<(), Fail> {
         let line = format!(in alloc; "{value} {kind} {a} {b} {c}\n")?;
         lines.push_str(line.as_str())?;
     }
-    assert_eq!(rt; lines.as_str(), "500800 2a-b 1 0 0\n500800 2a+b-2c 2 0 1\n");
-    assert_eq!(rt; listed.total, 2);
+    let total = listed.total;
+    let last = format!(in alloc; "products {total}\n")?;
+    lines.push_str(last.as_str())?;
+    Ok(lines)
+}
+
+const EVEN: [u32; 3] = [500000, 500400, 500800];
+
+/// Each two of three carriers are on in a common minute, and the three are in none.
+const PAIRS: [(u8, u32, u32); 4] = [(b'a', 0, 10), (b'a', 20, 30), (b'b', 0, 20), (b'c', 10, 30)];
+
+#[test]
+fn reports_of_small_shows(rt: HostRuntime) -> Result<(), Fail> {
+    let rows = [
+        (
+            at(P, &EVEN),
+            "2a-b 1 0 0 hits 2 at 500800 0 100\n2a-b 1 2 0 hits 0 at 500000 0 100\nconflicts 2\n",
+        ),
+        (at(P, &[500000, 500400, 500900]), "conflicts 0\n"),
+        (
+            at(P, &[500000, 500400, 500875]),
+            "2a-b 1 0 0 hits 2 at 500800 75 100\n2a-b 1 2 0 hits 0 at 499925 75 100\nconflicts 2\n",
+        ),
+        (
+            at(P, &[500000, 501000, 503000, 504000]),
+            "a+b-c 0 3 1 hits 2 at 503000 0 50\na+b-c 0 3 2 hits 1 at 501000 0 50\na+b-c 1 2 0 hits 3 at 504000 0 50\na+b-c 1 2 3 hits 0 at 500000 0 50\nconflicts 4\n",
+        ),
+        (
+            at(Q, &[500000, 500400, 501200]),
+            "3a-2b 1 0 0 hits 2 at 501200 0 100\nconflicts 1\n",
+        ),
+        (at(P, &[500000, 500400, 501200]), "conflicts 0\n"),
+        (
+            at(P, &[500010, 500400, 500800]),
+            "off-grid 0\n2a-b 1 0 0 hits 2 at 500790 10 100\n2a-b 1 2 0 hits 0 at 500000 10 100\nconflicts 3\n",
+        ),
+        (
+            Small {
+                times: &PAIRS,
+                ..at(P, &EVEN)
+            },
+            "conflicts 0\n",
+        ),
+        (
+            Small {
+                times: &[(b'a', 0, 10), (b'b', 10, 20)],
+                ..at(P, &[500000, 500000])
+            },
+            "conflicts 0\n",
+        ),
+        (
+            Small {
+                times: &[(b'a', 0, 10), (b'b', 10, 20), (b'b', 9, 10)],
+                ..at(P, &[500000, 500000])
+            },
+            "spacing 0 1 0 350\nconflicts 1\n",
+        ),
+        (
+            Small {
+                ban: Some((500400, 500500)),
+                ..at(P, &[500400])
+            },
+            "banned 0\nconflicts 1\n",
+        ),
+    ];
+    for (small, lines) in &rows {
+        let report = report(rt.alloc(), *small)?;
+        assert!(rt; report.as_str() == *lines);
+    }
+    Ok(())
+}
+
+#[test]
+fn products_of_three_carriers(rt: HostRuntime) -> Result<(), Fail> {
+    let alloc = rt.alloc();
+    let show = make(alloc, at(P, &EVEN))?;
+    let all = product_lines(alloc, &show)?;
+    assert_eq!(rt;
+        all.as_str(),
+        "500800 2a-b 1 0 0\n500800 2a+b-2c 2 0 1\nproducts 2\n"
+    );
+    let apart = Small {
+        times: &PAIRS,
+        ..at(P, &EVEN)
+    };
+    let show = make(alloc, apart)?;
+    let pairs = product_lines(alloc, &show)?;
+    assert_eq!(rt; pairs.as_str(), "500800 2a-b 1 0 0\nproducts 1\n");
+    Ok(())
+}
+
+#[test]
+fn plans_of_small_shows(rt: HostRuntime) -> Result<(), Fail> {
+    let alloc = rt.alloc();
+    let free = make(alloc, at(P, &EVEN))?;
+    assert!(rt; keeps(&free, &[0, 16, 36]));
+    assert!(rt; !keeps(&free, &[0, 16, 32]));
+    assert!(rt; !keeps(&free, &[0, 16]));
+    assert!(rt; !keeps(&free, &[0, 16, 401]));
+    let banned = Small {
+        ban: Some((500400, 500500)),
+        ..at(P, &EVEN)
+    };
+    let show = make(alloc, banned)?;
+    assert!(rt; !keeps(&show, &[0, 16, 36]));
+    assert!(rt; keeps(&show, &[0, 60, 200]));
+    let apart = Small {
+        times: &PAIRS,
+        ..at(P, &EVEN)
+    };
+    let show = make(alloc, apart)?;
+    assert!(rt; keeps(&show, &[0, 16, 32]));
     Ok(())
 }

@@ -14,7 +14,7 @@ use Rattle.rf_rules.proofs.analysis.add_kind.Goals as goal
 
 pub returns : goal.returns
 returns c =
-    let show = c.args.show.now in
+    let show = c.args.company.now.show.now in
     let ats = c.args.ats.now in
     let kind = c.args.kind in
     let all : roles_of kind ≡ roles_of kind - 0 = omega arith in
@@ -23,5 +23,5 @@ returns c =
 
 pub returns-then-ask_nothing : goal.returns-then-ask_nothing
 returns-then-ask_nothing c =
-    let none : conflicts_of c.args.show.now c.args.ats.now c.args.kind ≡ [] = idle c.args.show.now c.args.ats.now c.args.kind c.requires (ap (list_all (λ (l : Lane). l.needs == 0)) (sym c.make_lanes-lanes.ensures.lanes) ∙ sym c.ask_nothing.ensures ∙ c.if-ask_nothing.true) in
+    let none : conflicts_of c.args.company.now.show.now c.args.ats.now c.args.kind ≡ [] = idle c.args.company.now.show.now c.args.ats.now c.args.kind c.requires.carriers (ap (list_all (λ (l : Lane). l.needs == 0)) (sym c.make_lanes-lanes.ensures.lanes) ∙ sym c.ask_nothing.ensures ∙ c.if-ask_nothing.true) in
     rw none (none-more c.args.tally.now)

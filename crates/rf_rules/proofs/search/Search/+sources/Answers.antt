@@ -37,7 +37,7 @@ sources-requires t c =
     let next : to_z w64 (of_z w64 c.with-next.result) ≡ c.with-next.result = to_z-of_z w64 c.with-next.result (record { sfits = c.with-next.type_inv }) in
     let same : length s.coefficients.now ≡ roles_of s.kind = ap length c.requires.ready.coefficients in
     let deep : c.args.depth + 1 < roles_of s.kind = omega (arith, same, c.if-depth-self.false, c.requires.depth) in
-    (omega (arith, deep, c.decreases), (c.requires.ready, (c.requires.victim, (deep, (rw (more t m) (next ∙ c.with-next.ensures), rw (more t m) push)))))
+    (omega (arith, deep, c.decreases), (c.requires.ready, (c.requires.known, (c.requires.same, (c.requires.victim, (deep, (rw (more t m) (next ∙ c.with-next.ensures), rw (more t m) push)))))))
 
 pub loop-carrier-preserved : goal.loop-carrier-preserved
 loop-carrier-preserved t c =

@@ -1,12 +1,11 @@
-use Rattle.std.proofs.Common.{◌≡◌, ◌+◌, ◌++◌, ◌∷◌, [], length, take, set, get_or, max, pos, ap, sym, ◌∙◌, arith}
-use Rattle.std.proofs.lemmas.List.{take_more_set, length-take-le, get_or-take}
+use Rattle.std.proofs.Common.{◌≡◌, ◌++◌, ◌∷◌, [], length, take, get_or, max, pos, ap, sym, ◌∙◌, arith}
+use Rattle.std.proofs.lemmas.List.{length-take-le, get_or-take}
+use Rattle.rf_show.specs.Show.{ShowData}
 use Rattle.rf_show.specs.Query.{asked, margin_of}
-use Rattle.rf_rules.specs.Instances.{AreCarriers}
 use Rattle.rf_rules.specs.declared.lane.Lane.{Lane}
-use Rattle.rf_rules.specs.Tallies.{Extends}
-use Rattle.rf_rules.specs.Searches.{broken_in, floor_of}
-use Rattle.rf_rules.proofs.TallyLemmas.{same-more}
-use Rattle.rf_rules.proofs.SearchLemmas.{step-start, step-far, step-near, step-end, broken-far, AreCarriers-push}
+use Rattle.rf_rules.specs.Searches.{floor_of}
+use Rattle.rf_rules.proofs.MaskLemmas.{all-below}
+use Rattle.rf_rules.proofs.SearchLemmas.{step-start, step-far, step-near, step-end, broken-far, found-closed}
 use Rattle.rf_rules.proofs.FormLemmas.{margin-push, few-roles, two-roles}
 use Rattle.rf_rules.proofs.ReadyLemmas.{ready-lane, ready-lanes}
 use Rattle.rf_rules.proofs.search.Search.victims.Goals as goal
@@ -23,10 +22,6 @@ bounds-self-carrier c = omega (arith, ready-lanes c.args.self.now c.requires.rea
 
 four : (c : After-max-needs) → length c.args.roles ≡ 4
 four c = omega arith
-
--- the first roles, with the last role taken
-more : (c : After-max-needs) → take (c.args.depth + 1) (set c.args.roles c.args.depth c.loop-carrier.carrier) ≡ take c.args.depth c.args.roles ++ c.loop-carrier.carrier ∷ []
-more c = take_more_set c.args.roles c.args.depth c.loop-carrier.carrier (omega (arith, four c, few-roles c.args.self.now.kind, c.requires.depth))
 
 long : (c : After-max-needs) → length (take c.args.depth c.args.roles) ≡ c.args.depth
 long c = length-take-le c.args.depth c.args.roles (omega (arith, four c, few-roles c.args.self.now.kind, c.requires.depth))
@@ -47,21 +42,29 @@ loop-carrier-preserved-then-distance-from c =
     step-far s (take c.args.depth c.args.roles) (length s.ats.now) c.loop-carrier.carrier c.args.tally.now c.loop-carrier.tally c.loop-carrier.invariant
     (broken-far s.show.now s.ats.now s.kind (take c.args.depth c.args.roles ++ c.loop-carrier.carrier ∷ []) (omega (arith, needs m, c.distance-distance.ensures, c.from.ensures, c.if-distance-from.true)))
 
-pub judge-requires-clause-taken : goal.judge-requires-clause-taken
-judge-requires-clause-taken c =
-    let m = (goal.at.judge-requires-clause-taken c).After-max-needs in
-    let push : AreCarriers c.args.self.now.ats.now (take c.args.depth c.args.roles ++ c.loop-carrier.carrier ∷ []) = AreCarriers-push c.args.self.now.ats.now (take c.args.depth c.args.roles) c.loop-carrier.carrier c.requires.taken c.loop-carrier-test.true in
-    rw (more m) push
+pub judge-requires-clause-carriers : goal.judge-requires-clause-carriers
+judge-requires-clause-carriers c = omega (arith, c.requires.known.few, ap (λ (d : ShowData). length d.carriers) c.requires.same, c.requires.ready.carriers)
+
+pub judge-requires-clause-opened : goal.judge-requires-clause-opened
+judge-requires-clause-opened c = sym c.is_open.ensures ∙ c.if-not-is_open.false
+
+pub judge-requires-clause-mates : goal.judge-requires-clause-mates
+judge-requires-clause-mates c = rw c.requires.same at (c.mates-mates.ensures c.loop-carrier.carrier (omega (arith, ap (λ (d : ShowData). length d.carriers) c.requires.same, c.requires.ready.carriers, c.loop-carrier-test.true)))
 
 pub judge-requires-clause-needs : goal.judge-requires-clause-needs
-judge-requires-clause-needs c = let m = (goal.at.judge-requires-clause-needs c).After-max-needs in rw (more m) (needs m)
+judge-requires-clause-needs c = needs (goal.at.judge-requires-clause-needs c).After-max-needs
+
+pub returns-then-not-is_open : goal.returns-then-not-is_open
+returns-then-not-is_open c =
+    found-closed c.args.self.now (take c.args.depth c.args.roles) 1 c.args.tally.now (sym c.is_open.ensures ∙ c.if-not-is_open.true)
+
+pub mates-mates-requires-clause-taken : goal.mates-mates-requires-clause-taken
+mates-mates-requires-clause-taken c = all-below _ _ _ (omega (arith, ap (λ (d : ShowData). length d.carriers) c.requires.same, c.requires.ready.carriers)) c.requires.taken
 
 pub loop-carrier-preserved : goal.loop-carrier-preserved
 loop-carrier-preserved c =
-    let m = (goal.at.loop-carrier-preserved c).After-max-needs in
     let s = c.args.self.now in
-    let now : Extends c.loop-carrier.tally c.judge.new.tally (broken_in s (take c.args.depth c.args.roles ++ c.loop-carrier.carrier ∷ []) ([] ∷ [])) = same-more c.loop-carrier.tally c.judge.new.tally _ _ (ap (λ t. broken_in s t ([] ∷ [])) (more m)) c.in_ok-judge.ensures in
-    step-near s (take c.args.depth c.args.roles) (length s.ats.now) c.loop-carrier.carrier c.args.tally.now c.loop-carrier.tally c.judge.new.tally c.loop-carrier.invariant now
+    step-near s (take c.args.depth c.args.roles) (length s.ats.now) c.loop-carrier.carrier c.args.tally.now c.loop-carrier.tally c.judge.new.tally c.loop-carrier.invariant c.in_ok-judge.ensures
 
 pub returns : goal.returns
 returns c = step-end c.args.self.now (take c.args.depth c.args.roles) 0 (length c.args.self.now.ats.now) c.loop-carrier.carrier c.args.tally.now c.loop-carrier.tally (omega arith) c.loop-carrier.invariant
