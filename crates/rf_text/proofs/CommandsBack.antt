@@ -1,21 +1,23 @@
 -- The line of a command is read back as the command.
-use Rattle.std.proofs.Common.{◌≡◌, ◌∙◌, ℕ, List, [], ◌∷◌, true, length, map, refl, sym, ap, Some, Ok}
+use Rattle.std.proofs.Common.{◌≡◌, ◌∙◌, ℕ, List, [], ◌∷◌, true, length, map, refl, sym, ap, Some, None, Ok}
 use Rattle.std.specs.Prelude.{decimal}
 use Rattle.std.specs.List.{list_all}
 use Rattle.rf_base.specs.Decimal.{number_of}
 use Rattle.rf_show.specs.declared.edit.Edit.{Edit}
 use Rattle.rf_show.specs.declared.edit.Edit.TheVariants as edit
 use Rattle.rf_text.specs.declared.command.Command.{Command}
-use Rattle.rf_text.specs.declared.command.Command.TheVariants.{Change, Undo, Redo, Report, Free, Quit}
+use Rattle.rf_text.specs.declared.command.Command.TheVariants.{Change, Profiles, Scan, Undo, Redo, Report, Csv, Show, Free, Products, Quit}
 use Rattle.rf_text.specs.Words.{is_word}
 use Rattle.rf_text.specs.Operands.{many}
-use Rattle.rf_text.specs.Edits.{edit_by, setup_by}
+use Rattle.rf_text.specs.Edits.{edit_by, exclusion_by, setup_by}
 use Rattle.rf_text.specs.Lines.{joined}
 use Rattle.rf_text.specs.Commands.{command_by, command_of, command_with}
 use Rattle.rf_text.specs.CommandTexts.{command_text_of, command_words}
 use Rattle.rf_text.specs.Verbs.{verb_of}
 use Rattle.rf_text.proofs.CommandsSaid.{AreShort, IsSaid, IsSaidEdit, line_said}
-use Rattle.rf_text.proofs.OperandsBack.{name_back, number_back}
+use Rattle.rf_text.proofs.DecimalsBack.{decimal_back}
+use Rattle.rf_text.proofs.OperandsBack.{file_back, name_back, number_back}
+use Rattle.rf_text.proofs.SeparatorsBack.{sep_back}
 use Rattle.rf_text.proofs.WordsBack.{words_back}
 
 -- numbers that are written
@@ -37,7 +39,7 @@ pub record IsBack (command : Command) : Type 0 where
   pub valid : list_all is_word (command_words command) ≡ true
 
 edit_back : (e : Edit) → IsSaidEdit e → IsBack (Change e)
-unfolding verb_of command_by edit_by setup_by
+unfolding verb_of command_by edit_by setup_by exclusion_by
 edit_back (edit.AddProfile name numbers) h =
     let n = name_back name h.0 in
     let k = numbers_back numbers h.1.1 in
@@ -79,19 +81,41 @@ edit_back (edit.SetAt name khz) h =
 edit_back (edit.Clear name) h = let n = name_back name h in record { read = rw n.read refl; valid = rw n.valid refl }
 edit_back (edit.Lock name) h = let n = name_back name h in record { read = rw n.read refl; valid = rw n.valid refl }
 edit_back (edit.Unlock name) h = let n = name_back name h in record { read = rw n.read refl; valid = rw n.valid refl }
-edit_back (edit.AddBan _ _ _) h = absurd h
-edit_back (edit.Unban _) h = absurd h
+edit_back (edit.AddBan lo hi None) h =
+    let a = number_back lo h.0 in
+    let b = number_back hi h.1.0 in
+    record { read = rw (a.read, b.read) refl; valid = rw (a.valid, b.valid) refl }
+edit_back (edit.AddBan lo hi (Some zone)) h =
+    let a = number_back lo h.0 in
+    let b = number_back hi h.1.0 in
+    let z = name_back zone h.1.1 in
+    record { read = rw (a.read, b.read, z.read) refl; valid = rw (a.valid, b.valid, z.valid) refl }
+edit_back (edit.Unban number) h = let n = number_back number h in record { read = rw n.read refl; valid = rw n.valid refl }
 edit_back (edit.AddScan _ _ _ _ _ _) h = absurd h
-edit_back (edit.Unscan _) h = absurd h
+edit_back (edit.Unscan number) h = let n = number_back number h in record { read = rw n.read refl; valid = rw n.valid refl }
 edit_back (edit.Place at) h = absurd h
 
 said_back : (command : Command) → IsSaid command → IsBack command
 unfolding verb_of command_by
 said_back (Change e) h = edit_back e h
+said_back (Profiles file) h = let f = file_back file h in record { read = rw f.read refl; valid = rw f.valid refl }
+said_back (Scan file zone threshold width sep) h =
+    let f = file_back file h.0 in
+    let z = name_back zone h.1.0 in
+    let t = decimal_back threshold h.1.1.0 in
+    let w = number_back width h.1.1.1 in
+    let s = sep_back sep in
+    record { read = rw (f.read, z.read, t.read, w.read, s.read) refl; valid = rw (f.valid, z.valid, t.valid, w.valid, s.valid) refl }
 said_back Undo h = record { read = refl; valid = refl }
 said_back Redo h = record { read = refl; valid = refl }
 said_back Report h = record { read = refl; valid = refl }
+said_back Csv h = record { read = refl; valid = refl }
+said_back Show h = record { read = refl; valid = refl }
 said_back (Free name) h = let n = name_back name h in record { read = rw n.read refl; valid = rw n.valid refl }
+said_back (Products lo hi) h =
+    let a = number_back lo h.0 in
+    let b = number_back hi h.1 in
+    record { read = rw (a.read, b.read) refl; valid = rw (a.valid, b.valid) refl }
 said_back Quit h = record { read = refl; valid = refl }
 
 line_back : (words : List (List ℕ)) (command : Command) → list_all is_word words ≡ true → command_with words ≡ Some command → command_of (joined words) ≡ Ok command

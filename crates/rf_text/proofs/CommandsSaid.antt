@@ -1,26 +1,37 @@
 -- What holds of each command that some line has: its names are names, and its numbers are short.
 use Rattle.std.proofs.Common.{◌≡◌, ◌<◌, ℕ, zero, suc, List, [], ◌∷◌, true, length, refl, ap, Some, None, Ok, subst}
-use Rattle.std.specs.Prelude.{◌^◌, IfSome, IsTrue, option_map, option_and_then, ok_or}
+use Rattle.std.specs.Prelude.{◌^◌, nat_abs, IfSome, IsTrue, option_and_then, ok_or}
 use Rattle.std.specs.declared.option.Option.{Option}
+use Rattle.rf_base.specs.declared.decimal.Decimal.{Decimal}
 use Rattle.rf_base.specs.Decimal.{number_of}
+use Rattle.rf_base.specs.FileName.{file_name_of, is_file_name}
 use Rattle.rf_base.specs.Name.{is_name, name_of}
 use Rattle.rf_show.specs.declared.edit.Edit.{Edit}
 use Rattle.rf_show.specs.declared.edit.Edit.TheVariants as edit
 use Rattle.rf_show.specs.After.{is_edit}
 use Rattle.rf_text.specs.declared.command.Command.{Command}
-use Rattle.rf_text.specs.declared.command.Command.TheVariants.{Change, Undo, Redo, Report, Free, Quit}
+use Rattle.rf_text.specs.declared.command.Command.TheVariants.{Change, Profiles, Scan, Undo, Redo, Report, Csv, Show, Free, Products, Quit}
 use Rattle.rf_text.specs.declared.command.UnknownLine.{UnknownLine}
 use Rattle.rf_text.specs.declared.verb.Verb.{Verb}
 use Rattle.rf_text.specs.declared.verb.Verb.TheVariants as verb
 use Rattle.rf_text.specs.Words.{words_of}
-use Rattle.rf_text.specs.Operands.{first, many, one, two, three, ◌>>=◌}
-use Rattle.rf_text.specs.Edits.{edit_by, setup_by}
-use Rattle.rf_text.specs.Commands.{bare, command_by, command_in, command_of, command_with, IsAskable}
+use Rattle.rf_text.specs.Decimals.{decimal_in}
+use Rattle.rf_text.specs.Separators.{sep_of}
+use Rattle.rf_text.specs.Operands.{at_most_one, first, many, one, two, three, ◌>>=◌}
+use Rattle.rf_text.specs.Edits.{edit_by, exclusion_by, setup_by}
+use Rattle.rf_text.specs.Commands.{bare, command_by, command_in, command_of, command_with, scan_by, IsAskable}
 use Rattle.rf_text.specs.Verbs.{verb_of}
-use Rattle.rf_text.proofs.OperandsBack.{name_read, number_read}
+use Rattle.rf_text.proofs.OperandsBack.{file_read, if_map, name_read, number_read}
+use Rattle.rf_text.proofs.DecimalsBack.{decimal_read}
 
 abbrev pub IsNamed : List ℕ → Type 0
 IsNamed name = is_name name ≡ true
+
+abbrev pub IsFiled : List ℕ → Type 0
+IsFiled name = is_file_name name ≡ true
+
+abbrev pub IsSmall : Decimal → Type 0
+IsSmall n = nat_abs n.0 < 10 ^ 18
 
 abbrev pub IsShort : ℕ → Type 0
 IsShort n = n < 10 ^ 9
@@ -45,23 +56,24 @@ IsSaidEdit (edit.SetAt name khz) = IsNamed name × IsShort khz
 IsSaidEdit (edit.Clear name) = IsNamed name
 IsSaidEdit (edit.Lock name) = IsNamed name
 IsSaidEdit (edit.Unlock name) = IsNamed name
-IsSaidEdit (edit.AddBan _ _ _) = ⊥
-IsSaidEdit (edit.Unban _) = ⊥
+IsSaidEdit (edit.AddBan lo hi zone) = IsShort lo × (IsShort hi × IfSome zone IsNamed)
+IsSaidEdit (edit.Unban number) = IsShort number
 IsSaidEdit (edit.AddScan _ _ _ _ _ _) = ⊥
-IsSaidEdit (edit.Unscan _) = ⊥
+IsSaidEdit (edit.Unscan number) = IsShort number
 IsSaidEdit (edit.Place at) = ⊥
 
 abbrev pub IsSaid : Command → Type 0
 IsSaid (Change edit) = IsSaidEdit edit
+IsSaid (Profiles file) = IsFiled file
+IsSaid (Scan file zone threshold width sep) = IsFiled file × (IsNamed zone × (IsSmall threshold × IsShort width × Unit {0}))
 IsSaid Undo = Unit {0}
 IsSaid Redo = Unit {0}
 IsSaid Report = Unit {0}
+IsSaid Csv = Unit {0}
+IsSaid Show = Unit {0}
 IsSaid (Free name) = IsNamed name
+IsSaid (Products lo hi) = IsShort lo × IsShort hi
 IsSaid Quit = Unit {0}
-
-if_map : {A B : Type 0} (f : A → B) (P : B → Type 0) (o : Option A) → IfSome o (λ x. P (f x)) → IfSome (option_map f o) P
-if_map f P None h = tt
-if_map f P (Some x) h = h
 
 if_then : {A B : Type 0} (next : A → Option B) (P : A → Type 0) (Q : B → Type 0) (o : Option A) → IfSome o P → ((x : A) → P x → IfSome (next x) Q) → IfSome (o >>= next) Q
 if_then next P Q None h k = tt
@@ -84,6 +96,11 @@ if_one : {A : Type 0} (reads : List ℕ → Option A) (P : A → Type 0)
 if_one reads P p [] = tt
 if_one reads P p (word ∷ []) = p word
 if_one reads P p (word ∷ next ∷ words) = tt
+
+if_at_most_one : {A : Type 0} (reads : List ℕ → Option A) (P : A → Type 0)
+    → ((word : List ℕ) → IfSome (reads word) P) → (words : List (List ℕ)) → IfSome (at_most_one reads words) (λ o. IfSome o P)
+if_at_most_one reads P p [] = tt
+if_at_most_one reads P p (word ∷ words) = if_map (λ x. Some x) (λ o. IfSome o P) (one reads (word ∷ words)) (if_one reads P p (word ∷ words))
 
 if_two : {A B : Type 0} (reads : List ℕ → Option A) (last : List ℕ → Option B) (P : A → Type 0) (Q : B → Type 0)
     → ((word : List ℕ) → IfSome (reads word) P) → ((word : List ℕ) → IfSome (last word) Q)
@@ -118,6 +135,18 @@ one_name = if_one name_of IsNamed name_read
 two_names : (words : List (List ℕ)) → IfSome (two name_of name_of words) (λ w. IsNamed w.0 × IsNamed w.1)
 two_names = if_two name_of name_of IsNamed IsNamed name_read name_read
 
+one_number : (words : List (List ℕ)) → IfSome (one number_of words) IsShort
+one_number = if_one number_of IsShort number_read
+
+exclusion_said : (v : Verb) (words : List (List ℕ)) → IfSome (exclusion_by v words) IsSaidEdit
+unfolding exclusion_by
+exclusion_said verb.Ban words = if_map (λ w. edit.AddBan w.0 w.1.0 w.1.1) IsSaidEdit _
+    (if_first number_of (first number_of (at_most_one name_of)) IsShort (λ w. IsShort w.0 × IfSome w.1 IsNamed) number_read
+    (if_first number_of (at_most_one name_of) IsShort (λ zone. IfSome zone IsNamed) number_read (if_at_most_one name_of IsNamed name_read)) words)
+exclusion_said verb.Unban words = if_map (λ number. edit.Unban number) IsSaidEdit _ (one_number words)
+exclusion_said verb.Unscan words = if_map (λ number. edit.Unscan number) IsSaidEdit _ (one_number words)
+exclusion_said _ words = tt
+
 setup_said : (v : Verb) (words : List (List ℕ)) → IfSome (setup_by v words) IsSaidEdit
 unfolding setup_by
 setup_said verb.Profile words = if_map (λ w. edit.AddProfile w.0 w.1) IsSaidEdit _ (if_first name_of (many 9 number_of) IsNamed (λ ns. (length ns ≡ 9) × AreShort ns) name_read (numbers_said 9) words)
@@ -128,7 +157,7 @@ setup_said verb.DropProfile words = if_map (λ name. edit.DropProfile name) IsSa
 setup_said verb.Zone words = if_map (λ name. edit.AddZone name) IsSaidEdit _ (one_name words)
 setup_said verb.Couple words = if_map (λ w. edit.Couple w.0 w.1) IsSaidEdit _ (two_names words)
 setup_said verb.Uncouple words = if_map (λ w. edit.Uncouple w.0 w.1) IsSaidEdit _ (two_names words)
-setup_said _ words = tt
+setup_said v words = exclusion_said v words
 
 edit_said : (v : Verb) (words : List (List ℕ)) → IfSome (edit_by v words) IsSaidEdit
 unfolding edit_by
@@ -146,12 +175,27 @@ bare_said : (command : Command) → IsSaid command → (words : List (List ℕ))
 bare_said command h [] = h
 bare_said command h (word ∷ words) = tt
 
+any : {A : Type 0} (o : Option A) → IfSome o (λ _. Unit {0})
+any None = tt
+any (Some x) = tt
+
+scan_said : (words : List (List ℕ)) → IfSome (scan_by words) IsSaid
+scan_said words = if_map (λ w. Scan w.0 w.1.0 w.1.1.0 w.1.1.1 w.1.1.2) IsSaid _
+    (if_first file_name_of (first name_of (three decimal_in number_of sep_of)) IsFiled (λ w. IsNamed w.0 × (IsSmall w.1.0 × IsShort w.1.1 × Unit {0})) file_read
+    (if_first name_of (three decimal_in number_of sep_of) IsNamed (λ w. IsSmall w.0 × IsShort w.1 × Unit {0}) name_read
+    (if_three decimal_in number_of sep_of IsSmall IsShort (λ _. Unit {0}) decimal_read number_read (λ word. any (sep_of word)))) words)
+
 command_said : (v : Verb) (words : List (List ℕ)) → IfSome (command_by v words) IsSaid
 unfolding command_by
+command_said verb.Profiles words = if_map (λ file. Profiles file) IsSaid _ (if_one file_name_of IsFiled file_read words)
+command_said verb.Scan words = scan_said words
 command_said verb.Undo words = bare_said Undo tt words
 command_said verb.Redo words = bare_said Redo tt words
 command_said verb.Report words = bare_said Report tt words
+command_said verb.Csv words = bare_said Csv tt words
+command_said verb.Show words = bare_said Show tt words
 command_said verb.Free words = if_map (λ name. Free name) IsSaid _ (one_name words)
+command_said verb.Products words = if_map (λ w. Products w.0 w.1) IsSaid _ (if_two number_of number_of IsShort IsShort number_read number_read words)
 command_said verb.Quit words = bare_said Quit tt words
 command_said v words = if_map Change IsSaid (edit_by v words) (edit_said v words)
 

@@ -1,9 +1,14 @@
 pub mod CommandsBack
 pub mod CommandsSaid
+pub mod CsvLemmas
+pub mod DecimalsBack
 pub mod LineLemmas
 pub mod NameLemmas
 pub mod OperandLemmas
 pub mod OperandsBack
+pub mod PlaceLemmas
 pub mod RunLemmas
+pub mod SeparatorsBack
+pub mod ShowLemmas
 pub mod WordLemmas
 pub mod WordsBack

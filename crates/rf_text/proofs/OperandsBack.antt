@@ -1,6 +1,7 @@
 -- Names and numbers that are written are read back as they were.
 use Rattle.std.proofs.Common.{◌≡◌, ◌<◌, ◌≤◌, ℕ, zero, suc, lit<, List, [], ◌∷◌, ◌&&◌, ◌||◌, Bool, true, false, not, length, get_or, arith, rules, refl, Some, None}
-use Rattle.std.specs.Prelude.{◌^◌, ◌==◌, decimal, slice_index, if◌then◌else◌, IfSome}
+use Rattle.std.specs.Prelude.{◌^◌, ◌==◌, decimal, slice_index, if◌then◌else◌, option_map, IfSome}
+use Rattle.std.specs.declared.option.Option.{Option}
 use Rattle.std.specs.Char.{is_ascii_digit}
 use Rattle.std.specs.List.{list_all}
 use Rattle.std.specs.Str.Parse.{digits_value}
@@ -8,10 +9,11 @@ use Rattle.std.proofs.lemmas.Bool.Decides.{nat_tests}
 use Rattle.std.proofs.lemmas.Str.Parse.{IsNumeralModel, numerals_by_value, digits_value_short}
 use Rattle.std.proofs.lemmas.Fmt.{digits_decimal, digits_value-decimal, decimal_nonempty, length-decimal-le, first_decimal, decimal_digit}
 use Rattle.rf_base.specs.Decimal.{is_digits, is_whole, number_of}
+use Rattle.rf_base.specs.FileName.{file_name_of, is_file_name, is_visible}
 use Rattle.rf_base.specs.Name.{is_name, is_name_byte, name_of}
 use Rattle.rf_text.specs.Words.{is_word, is_word_byte}
 
-own : IsNumeralModel (λ ds. list_all is_ascii_digit ds ≡ true) (digits_value 10)
+pub own : IsNumeralModel (λ ds. list_all is_ascii_digit ds ≡ true) (digits_value 10)
 own = numerals_by_value _ (search rules)
 
 -- a word that is read as a value
@@ -19,7 +21,7 @@ pub record Says {A : Type 0} (reads : List ℕ → A) (word : List ℕ) (value :
   pub read : reads word ≡ value
   pub valid : is_word word ≡ true
 
-whole_digits : (ds : List ℕ) → list_all is_ascii_digit ds ≡ true → 0 < length ds → length ds ≤ 9 → is_whole ds ≡ true
+pub whole_digits : (ds : List ℕ) → list_all is_ascii_digit ds ≡ true → 0 < length ds → length ds ≤ 9 → is_whole ds ≡ true
 unfolding is_whole is_digits
 whole_digits ds digits some few = rw digits (grind (arith, nat_tests))
 
@@ -37,7 +39,7 @@ no_zero (suc n) h = above_front (decimal (suc n)) (first_decimal (suc n) (omega 
 digit_byte : (b : ℕ) (more : Bool) → (is_ascii_digit b && more) ≡ true → (is_word_byte b ≡ true) × (more ≡ true)
 digit_byte b more h = grind (arith, nat_tests)
 
-digit_bytes : (ds : List ℕ) → list_all is_ascii_digit ds ≡ true → list_all is_word_byte ds ≡ true
+pub digit_bytes : (ds : List ℕ) → list_all is_ascii_digit ds ≡ true → list_all is_word_byte ds ≡ true
 digit_bytes [] h = refl
 digit_bytes (b ∷ ds) h = let p = digit_byte b (list_all is_ascii_digit ds) h in rw (p.0, digit_bytes ds p.1) refl
 
@@ -48,7 +50,7 @@ name_bytes : (word : List ℕ) → list_all is_name_byte word ≡ true → list_
 name_bytes [] h = refl
 name_bytes (b ∷ word) h = let p = name_byte b (list_all is_name_byte word) h in rw (p.0, name_bytes word p.1) refl
 
-word_is : (word : List ℕ) → 0 < length word → list_all is_word_byte word ≡ true → is_word word ≡ true
+pub word_is : (word : List ℕ) → 0 < length word → list_all is_word_byte word ≡ true → is_word word ≡ true
 word_is word some bytes = rw bytes (grind (arith, nat_tests))
 
 name_parts : (word : List ℕ) → is_name word ≡ true → (0 < length word) × (list_all is_name_byte word ≡ true)
@@ -69,12 +71,23 @@ name_back name h =
     let p = name_parts name h in
     record { read = rw h refl; valid = word_is name p.0 (name_bytes name p.1) }
 
+visible_bytes : (word : List ℕ) → list_all is_visible word ≡ true → list_all is_word_byte word ≡ true
+visible_bytes word h = h
+
+file_parts : (word : List ℕ) → is_file_name word ≡ true → (0 < length word) × (list_all is_visible word ≡ true)
+file_parts word h = grind (arith, nat_tests)
+
+pub file_back : (file : List ℕ) → is_file_name file ≡ true → Says file_name_of file (Some file)
+file_back file h =
+    let p = file_parts file h in
+    record { read = rw h refl; valid = word_is file p.0 (visible_bytes file p.1) }
+
 -- a value that is there under a test
-then_some : {A : Type 0} (P : A → Type 0) (test : Bool) (value : A) → (test ≡ true → P value) → IfSome (if test then Some value else None) P
+pub then_some : {A : Type 0} (P : A → Type 0) (test : Bool) (value : A) → (test ≡ true → P value) → IfSome (if test then Some value else None) P
 then_some P true value h = h refl
 then_some P false value h = tt
 
-whole_parts : (ds : List ℕ) → is_whole ds ≡ true → (list_all is_ascii_digit ds ≡ true) × (length ds ≤ 9)
+pub whole_parts : (ds : List ℕ) → is_whole ds ≡ true → (list_all is_ascii_digit ds ≡ true) × (length ds ≤ 9)
 unfolding is_whole is_digits
 whole_parts ds h = grind (arith, nat_tests)
 
@@ -89,3 +102,11 @@ pub number_read : (word : List ℕ) → IfSome (number_of word) (λ n. n < 10 ^ 
 unfolding number_of
 number_read word = then_some (λ n. n < 10 ^ 9) _ (digits_value 10 word)
     (λ h. let p = whole_parts word (both_left (is_whole word) _ h) in digits_value_short own word 9 p.0 p.1)
+
+-- a value that is changed
+pub if_map : {A B : Type 0} (f : A → B) (P : B → Type 0) (o : Option A) → IfSome o (λ x. P (f x)) → IfSome (option_map f o) P
+if_map f P None h = tt
+if_map f P (Some x) h = h
+
+pub file_read : (word : List ℕ) → IfSome (file_name_of word) (λ name. is_file_name name ≡ true)
+file_read word = then_some (λ name. is_file_name name ≡ true) (is_file_name word) word (λ h. h)

@@ -1,5 +1,5 @@
 -- The runs of neighbours that pass a test.
-use Rattle.std.proofs.Common.{◌≡◌, add-zero, zero-add, get_or, length-append, take, ◌<◌, ◌≤◌, ◌+◌, ◌-◌, ◌++◌, ◌∙◌, ℕ, zero, suc, List, [], ◌∷◌, ◌&&◌, Bool, true, false, not, length, filter, append-nil, append_assoc, inl, inr, subst, sym, ap, arith, refl, rules}
+use Rattle.std.proofs.Common.{◌≡◌, add-zero, zero-add, get_or, length-append, take, ◌<◌, ◌≤◌, ◌+◌, ◌-◌, ◌++◌, ◌∙◌, ℕ, zero, suc, List, [], ◌∷◌, Bool, true, false, not, length, append-nil, append_assoc, inl, inr, subst, sym, ap, arith, refl}
 use Rattle.std.specs.Prelude.{◌==◌, decimal, string_bytes, sum_by, slice_get, slice_index, Some}
 use Rattle.std.specs.declared.alloc.Global.{Global}
 use Rattle.std.specs.Prelude.{String}
@@ -21,7 +21,7 @@ use Rattle.rf_text.specs.Free.{IsNextRun, blocks, khz_at, run_line, runs}
 use Rattle.rf_text.specs.Lines.{line_of}
 
 -- the numbers from a on, in two parts
-range_parts : (a m n s b : ℕ) → s ≡ m + n → b ≡ a + m → range_with_len a s ≡ range_with_len a m ++ range_with_len b n
+pub range_parts : (a m n s b : ℕ) → s ≡ m + n → b ≡ a + m → range_with_len a s ≡ range_with_len a m ++ range_with_len b n
 range_parts a zero n s b h k = let e : s ≡ n = omega arith in let f : b ≡ a = omega arith in rw (e, f) refl
 range_parts a (suc m) n zero b h k = absurd (omega arith)
 range_parts a (suc m) n (suc s) b h k = ap (λ more. a ∷ more) (range_parts (a + 1) m n s b (omega arith) (omega arith))

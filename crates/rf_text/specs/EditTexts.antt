@@ -1,10 +1,15 @@
 -- How an edit is written.
-use Rattle.std.specs.Prelude.{ℕ, List, [], ◌∷◌, map, decimal}
+use Rattle.std.specs.Prelude.{ℕ, List, [], ◌∷◌, Option, None, Some, map, decimal}
 use Rattle.rf_show.specs.declared.edit.Edit.{Edit}
 use Rattle.rf_show.specs.declared.edit.Edit.TheVariants as edit
 use Rattle.rf_text.specs.declared.verb.Verb.TheVariants as verb
 use Rattle.rf_text.specs.Lines.{joined}
 use Rattle.rf_text.specs.Verbs.{text_of}
+
+-- the word of a zone, where one is named
+abbrev pub zone_words : Option (List ℕ) → List (List ℕ)
+zone_words None = []
+zone_words (Some zone) = zone ∷ []
 
 -- the words of an edit; none where no line has it
 abbrev pub edit_words : Edit → List (List ℕ)
@@ -23,10 +28,10 @@ edit_words (edit.SetAt name khz) = text_of verb.Set ∷ name ∷ decimal khz ∷
 edit_words (edit.Clear name) = text_of verb.Clear ∷ name ∷ []
 edit_words (edit.Lock name) = text_of verb.Lock ∷ name ∷ []
 edit_words (edit.Unlock name) = text_of verb.Unlock ∷ name ∷ []
-edit_words (edit.AddBan _ _ _) = []
-edit_words (edit.Unban _) = []
+edit_words (edit.AddBan lo hi zone) = text_of verb.Ban ∷ decimal lo ∷ decimal hi ∷ zone_words zone
+edit_words (edit.Unban number) = text_of verb.Unban ∷ decimal number ∷ []
 edit_words (edit.AddScan _ _ _ _ _ _) = []
-edit_words (edit.Unscan _) = []
+edit_words (edit.Unscan number) = text_of verb.Unscan ∷ decimal number ∷ []
 edit_words (edit.Place at) = []
 
 -- the line of an edit, without its line feed

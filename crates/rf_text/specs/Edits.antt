@@ -6,7 +6,14 @@ use Rattle.rf_show.specs.declared.edit.Edit.{Edit}
 use Rattle.rf_show.specs.declared.edit.Edit.TheVariants as edit
 use Rattle.rf_text.specs.declared.verb.Verb.{Verb}
 use Rattle.rf_text.specs.declared.verb.Verb.TheVariants as verb
-use Rattle.rf_text.specs.Operands.{first, many, one, two, three}
+use Rattle.rf_text.specs.Operands.{at_most_one, first, many, one, two, three}
+
+-- an edit of what is excluded, by a first word and the operands after it
+unfoldable pub exclusion_by : Verb → List (List ℕ) → Option Edit
+exclusion_by verb.Ban words = option_map (λ w. edit.AddBan w.0 w.1.0 w.1.1) (first number_of (first number_of (at_most_one name_of)) words)
+exclusion_by verb.Unban words = option_map (λ number. edit.Unban number) (one number_of words)
+exclusion_by verb.Unscan words = option_map (λ number. edit.Unscan number) (one number_of words)
+exclusion_by _ words = None
 
 -- an edit of what the carriers stand on, by a first word and the operands after it
 unfoldable pub setup_by : Verb → List (List ℕ) → Option Edit
@@ -16,7 +23,7 @@ setup_by verb.DropProfile words = option_map (λ name. edit.DropProfile name) (o
 setup_by verb.Zone words = option_map (λ name. edit.AddZone name) (one name_of words)
 setup_by verb.Couple words = option_map (λ w. edit.Couple w.0 w.1) (two name_of name_of words)
 setup_by verb.Uncouple words = option_map (λ w. edit.Uncouple w.0 w.1) (two name_of name_of words)
-setup_by _ words = None
+setup_by verb words = exclusion_by verb words
 
 -- an edit by a first word and the operands after it
 unfoldable pub edit_by : Verb → List (List ℕ) → Option Edit

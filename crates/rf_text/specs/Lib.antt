@@ -1,10 +1,14 @@
 pub mod CommandTexts
 pub mod Commands
+pub mod Csv
+pub mod Decimals
 pub mod EditTexts
 pub mod Edits
 pub mod Free
 pub mod Lines
 pub mod Operands
 pub mod Reports
+pub mod Separators
+pub mod Shows
 pub mod Verbs
 pub mod Words

@@ -23,6 +23,11 @@ two reads last words = first reads (one last) words
 abbrev pub three : {A B C : Type 0} → (List ℕ → Option A) → (List ℕ → Option B) → (List ℕ → Option C) → List (List ℕ) → Option (A × B × C)
 three reads next last words = option_map (λ w. (w.0, w.1.0, w.1.1)) (first reads (two next last) words)
 
+-- one operand, or none
+abbrev pub at_most_one : {A : Type 0} → (List ℕ → Option A) → List (List ℕ) → Option (Option A)
+at_most_one reads [] = Some None
+at_most_one reads (word ∷ words) = option_map (λ operand. Some operand) (one reads (word ∷ words))
+
 -- so many operands
 unfoldable pub many : {A : Type 0} → ℕ → (List ℕ → Option A) → List (List ℕ) → Option (List A)
 many zero reads words = if is_empty words then Some [] else None

@@ -6,6 +6,8 @@ use Rattle.rf_terms.specs.Kinds.{text_of}
 use Rattle.rf_show.specs.declared.carrier.Carrier.{Carrier}
 use Rattle.rf_rules.specs.declared.conflict.Conflict.{Conflict}
 use Rattle.rf_rules.specs.declared.conflict.Conflict.TheVariants as conflict
+use Rattle.rf_rules.specs.declared.product.Product.{Product}
+use Rattle.rf_rules.specs.declared.product.Products.{Products}
 use Rattle.rf_rules.specs.declared.analysis.Analysis.{Analysis}
 use Rattle.rf_text.specs.Lines.{line_of, name_at, source_names}
 
@@ -30,3 +32,12 @@ conflict_line carriers conflict = line_of (conflict_words carriers conflict)
 abbrev pub report_text_of : List Carrier → Analysis → List ℕ
 report_text_of carriers analysis =
     flat_map (conflict_line carriers) analysis.shown ++ line_of (codes "conflicts" ∷ decimal analysis.total ∷ [])
+
+unfoldable pub product_line : List Carrier → Product → List ℕ
+product_line carriers product =
+    line_of (codes "product" ∷ signed_decimal product.value ∷ text_of product.kind ∷ source_names carriers product.kind product.sources)
+
+-- the reply to `products`
+abbrev pub products_text_of : List Carrier → Products → List ℕ
+products_text_of carriers products =
+    flat_map (product_line carriers) products.shown ++ line_of (codes "products" ∷ decimal products.total ∷ [])

@@ -6,8 +6,9 @@ use Rattle.rf_text.specs.declared.verb.Verb.TheVariants as verb
 
 abbrev pub verbs : List Verb
 verbs = verb.Profile ∷ verb.Range ∷ verb.DropProfile ∷ verb.Zone ∷ verb.Couple ∷ verb.Uncouple ∷ verb.Carrier ∷ verb.Remove
-    ∷ verb.Time ∷ verb.Always ∷ verb.Set ∷ verb.Clear ∷ verb.Lock ∷ verb.Unlock ∷ verb.Undo ∷ verb.Redo
-    ∷ verb.Report ∷ verb.Free ∷ verb.Quit ∷ []
+    ∷ verb.Time ∷ verb.Always ∷ verb.Set ∷ verb.Clear ∷ verb.Lock ∷ verb.Unlock ∷ verb.Ban ∷ verb.Unban
+    ∷ verb.Scan ∷ verb.Unscan ∷ verb.Profiles ∷ verb.Undo ∷ verb.Redo ∷ verb.Report ∷ verb.Csv ∷ verb.Show
+    ∷ verb.Free ∷ verb.Products ∷ verb.Quit ∷ []
 
 -- how a verb is written
 abbrev pub text_of : Verb → List ℕ
@@ -25,10 +26,18 @@ text_of verb.Set = codes "set"
 text_of verb.Clear = codes "clear"
 text_of verb.Lock = codes "lock"
 text_of verb.Unlock = codes "unlock"
+text_of verb.Ban = codes "ban"
+text_of verb.Unban = codes "unban"
+text_of verb.Scan = codes "scan"
+text_of verb.Unscan = codes "unscan"
+text_of verb.Profiles = codes "profiles"
 text_of verb.Undo = codes "undo"
 text_of verb.Redo = codes "redo"
 text_of verb.Report = codes "report"
+text_of verb.Csv = codes "csv"
+text_of verb.Show = codes "show"
 text_of verb.Free = codes "free"
+text_of verb.Products = codes "products"
 text_of verb.Quit = codes "quit"
 
 -- the verb that a word writes

@@ -2,10 +2,11 @@ ghost use Rattle.std.specs.Prelude.{◌≡◌, IfOk};
 ghost use Rattle.rf_text.specs.Commands as spec;
 
 use crate::edit::edit_by;
-use crate::operand::one;
+use crate::operand::{one, three, two};
 use crate::verb::Verb;
 use crate::words::Words;
-use rf_base::Name;
+use rf_base::{Decimal, FileName, Name};
+use rf_exclusions::Sep;
 use rf_show::Edit;
 
 /// What a script line asks for.
@@ -13,14 +14,37 @@ use rf_show::Edit;
 pub enum Command {
     /// An edit of the show that names no file.
     Change(Edit),
+    /// The profiles of a file are added.
+    Profiles {
+        file: FileName,
+    },
+    /// A scan of a file is added.
+    Scan {
+        file: FileName,
+        zone: Name,
+        threshold: Decimal,
+        width: u32,
+        sep: Sep,
+    },
     /// The show before the last edit.
     Undo,
     /// The show before the last undo.
     Redo,
     /// The conflicts of the show.
     Report,
+    /// The conflicts of the show as rows of comma-separated fields.
+    Csv,
+    /// The show as the lines that make it.
+    Show,
     /// The allowed channels of a carrier.
-    Free { name: Name },
+    Free {
+        name: Name,
+    },
+    /// The intermodulation products from `lo` to `hi`, in kilohertz.
+    Products {
+        lo: u32,
+        hi: u32,
+    },
     /// The end of the session.
     Quit,
 }
@@ -55,14 +79,41 @@ fn command_by(verb: Verb, operands: Words<'_>) -> Option<Command>
     ensures { result ≡ spec.command_by verb operands.entry }
 {
     match verb {
+        Verb::Profiles => {
+            let file = one(operands)?;
+            Some(Command::Profiles { file })
+        }
+        Verb::Scan => scan_by(operands),
         Verb::Undo => operands.is_empty().then_some(Command::Undo),
         Verb::Redo => operands.is_empty().then_some(Command::Redo),
         Verb::Report => operands.is_empty().then_some(Command::Report),
+        Verb::Csv => operands.is_empty().then_some(Command::Csv),
+        Verb::Show => operands.is_empty().then_some(Command::Show),
         Verb::Free => {
             let name = one(operands)?;
             Some(Command::Free { name })
         }
+        Verb::Products => {
+            let (lo, hi) = two(operands)?;
+            Some(Command::Products { lo, hi })
+        }
         Verb::Quit => operands.is_empty().then_some(Command::Quit),
         _ => Some(Command::Change(edit_by(verb, operands)?)),
     }
+}
+
+// The scan that operands write.
+fn scan_by(mut operands: Words<'_>) -> Option<Command>
+    ensures { result ≡ spec.scan_by operands.entry }
+{
+    let file = FileName::read(operands.next()?)?;
+    let zone = Name::read(operands.next()?)?;
+    let (threshold, width, sep) = three(operands)?;
+    Some(Command::Scan {
+        file,
+        zone,
+        threshold,
+        width,
+        sep,
+    })
 }

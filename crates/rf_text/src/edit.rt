@@ -1,7 +1,7 @@
 ghost use Rattle.std.specs.Prelude.{◌≡◌};
 ghost use Rattle.rf_text.specs.Edits as spec;
 
-use crate::operand::{numbers, one, three, two};
+use crate::operand::{Operand, at_most_one, numbers, one, three, two};
 use crate::verb::Verb;
 use crate::words::Words;
 use rf_base::Name;
@@ -83,6 +83,28 @@ fn setup_by(verb: Verb, mut operands: Words<'_>) -> Option<Edit>
             let (a, b) = two(operands)?;
             Some(Edit::Uncouple { a, b })
         }
+        _ => exclusion_by(verb, operands),
+    }
+}
+
+// An edit of what is excluded.
+#[tactic(auto, unfolding(crate::specs::Edits::exclusion_by))]
+fn exclusion_by(verb: Verb, mut operands: Words<'_>) -> Option<Edit>
+    ensures { result ≡ spec.exclusion_by verb operands.entry }
+{
+    match verb {
+        Verb::Ban => {
+            let lo = u32::read(operands.next()?)?;
+            let hi = u32::read(operands.next()?)?;
+            let zone = at_most_one(operands)?;
+            Some(Edit::AddBan { lo, hi, zone })
+        }
+        Verb::Unban => Some(Edit::Unban {
+            number: one(operands)?,
+        }),
+        Verb::Unscan => Some(Edit::Unscan {
+            number: one(operands)?,
+        }),
         _ => None,
     }
 }

@@ -59,12 +59,13 @@ pub(crate) fn write_edit(text: &mut String, edit: &Edit) -> Result<(), NoMemory>
         Edit::Clear { name } => write_named(text, Verb::Clear, name),
         Edit::Lock { name } => write_named(text, Verb::Lock, name),
         Edit::Unlock { name } => write_named(text, Verb::Unlock, name),
-        Edit::AddProfiles { .. }
-        | Edit::AddBan { .. }
-        | Edit::Unban { .. }
-        | Edit::AddScan { .. }
-        | Edit::Unscan { .. }
-        | Edit::Place { .. } => Ok(()),
+        Edit::AddBan { lo, hi, zone } => {
+            write_numbered(text, Verb::Ban, &[*lo, *hi])?;
+            write_zone(text, zone)
+        }
+        Edit::Unban { number } => write_numbered(text, Verb::Unban, &[*number]),
+        Edit::Unscan { number } => write_numbered(text, Verb::Unscan, &[*number]),
+        Edit::AddProfiles { .. } | Edit::AddScan { .. } | Edit::Place { .. } => Ok(()),
     }
 }
 
@@ -87,8 +88,26 @@ pub(crate) fn write_named(text: &mut String, verb: Verb, name: &Name) -> Result<
     Ok(())
 }
 
-// Writes a space and a name.
-fn write_name(text: &mut String, name: &Name) -> Result<(), NoMemory>
+/// Writes a verb and numbers.
+pub(crate) fn write_numbered(text: &mut String, verb: Verb, numbers: &[u32]) -> Result<(), NoMemory>
+    ensures { OnOk result (string_bytes text.new ≡ string_bytes text.old ++ joined (text_of verb ∷ map decimal numbers.now)) }
+{
+    write_verb(text, verb)?;
+    write_numbers(text, numbers)
+}
+
+// Writes a space and a zone, where one is named.
+fn write_zone(text: &mut String, zone: &Option<Name>) -> Result<(), NoMemory>
+    ensures { OnOk result (string_bytes text.new ≡ string_bytes text.old ++ spaced (spec.zone_words zone.now)) }
+{
+    match zone {
+        None => Ok(()),
+        Some(zone) => write_name(text, zone),
+    }
+}
+
+/// Writes a space and a name.
+pub(crate) fn write_name(text: &mut String, name: &Name) -> Result<(), NoMemory>
     ensures { OnOk result (string_bytes text.new ≡ string_bytes text.old ++ spaced (name.now ∷ [])) }
 {
     let name = name_text(name);

@@ -2,10 +2,15 @@ ghost use Rattle.std.specs.Prelude.{◌≡◌, ℕ, List};
 ghost use Rattle.std.specs.declared.option.Option.{Option};
 ghost use Rattle.rf_base.specs.Name.{name_of};
 ghost use Rattle.rf_base.specs.Decimal.{number_of};
+ghost use Rattle.rf_base.specs.FileName.{file_name_of};
+ghost use Rattle.rf_text.specs.Decimals.{decimal_in};
+ghost use Rattle.rf_text.specs.Separators.{sep_of};
 ghost use Rattle.rf_text.specs.Operands as spec;
 
+use crate::separator::read_sep;
 use crate::words::Words;
-use rf_base::{Name, read_number};
+use rf_base::{Decimal, FileName, Name, read_decimal, read_number};
+use rf_exclusions::Sep;
 
 /// What a word of a line is read as.
 pub(crate) trait Operand: Copy {
@@ -33,11 +38,48 @@ impl Operand for u32 {
     }
 }
 
+impl Operand for FileName {
+    ghost reads = { file_name_of };
+
+    fn read(word: &[u8]) -> Option<FileName> {
+        FileName::read(word)
+    }
+}
+
+impl Operand for Decimal {
+    ghost reads = { decimal_in };
+
+    fn read(word: &[u8]) -> Option<Decimal> {
+        read_decimal(word)
+    }
+}
+
+impl Operand for Sep {
+    ghost reads = { sep_of };
+
+    fn read(word: &[u8]) -> Option<Sep> {
+        read_sep(word)
+    }
+}
+
 /// One operand.
 pub(crate) fn one<A: Operand>(words: Words<'_>) -> Option<A>
     ensures { result ≡ spec.one A.reads words.entry }
 {
     A::read(words.only()?)
+}
+
+/// One operand, or none.
+pub(crate) fn at_most_one<A: Operand>(mut words: Words<'_>) -> Option<Option<A>>
+    ensures { result ≡ spec.at_most_one A.reads words.entry }
+{
+    let Some(word) = words.next() else {
+        return Some(None);
+    };
+    if !words.is_empty() {
+        return None;
+    }
+    Some(Some(A::read(word)?))
 }
 
 /// Two operands.

@@ -1,6 +1,10 @@
-use crate::{Command, UnknownLine, read_command, report_text};
-use rf_base::Name;
-use rf_rules::analyse;
+use crate::{
+    Command, UnknownLine, command_text, csv_text, products_text, read_command, report_text,
+    show_text,
+};
+use rf_base::{Decimal, FileName, Khz, Name};
+use rf_exclusions::{HotPoints, Sep};
+use rf_rules::{analyse, products};
 use rf_show::{Edit, Show};
 use std::alloc::Global;
 use std::test::Fail;
@@ -35,6 +39,16 @@ fn lines_of_no_command(rt: HostRuntime) -> Result<(), Fail> {
         b"profile P 500000 510000 25 350 0 100 50 0 0 0".as_slice(),
         b"quit now".as_slice(),
         b"undo 1".as_slice(),
+        b"ban 470000".as_slice(),
+        b"ban 470000 480000 main stage".as_slice(),
+        b"unban".as_slice(),
+        b"unscan -1".as_slice(),
+        b"scan s.csv main -80 1".as_slice(),
+        b"scan s.csv main -80 1 space".as_slice(),
+        b"scan s.csv main -80. 1 comma".as_slice(),
+        b"scan s.csv main .5 1 comma".as_slice(),
+        b"profiles".as_slice(),
+        b"products 500000".as_slice(),
     ] {
         assert!(rt; matches!(read_command(line), Err(UnknownLine)), "{line:?}");
     }
@@ -80,15 +94,14 @@ const P: &str = "profile P 500000 510000 25 350 0 100 50 0 0";
 
 const Q: &str = "profile Q 500000 510000 25 350 0 100 50 100 0";
 
-// The report of a show that lines of edits make of the first one.
-fn report_of(alloc: Global, profile: &str, lines: &str) -> Result<Vec<u8>, Fail> {
+// The show that lines of edits make of the first one.
+fn show_of(alloc: Global, profile: &str, lines: &str) -> Result<Show, Fail> {
     let mut show = Show::new(alloc)?;
     play(&mut show, profile)?;
     for line in lines.lines() {
         play(&mut show, line)?;
     }
-    let analysis = analyse(alloc, &show)?;
-    Ok(report_text(alloc, &show, &analysis)?)
+    Ok(show)
 }
 
 fn play(show: &mut Show, line: &str) -> Result<(), Fail> {
@@ -138,8 +151,145 @@ fn reports_of_worked_shows(rt: HostRuntime) -> Result<(), Fail> {
             "spacing a b distance 0 needs 350\nconflicts 1\n",
         ),
     ] {
-        let text = report_of(rt.alloc(), profile, lines)?;
+        let show = show_of(rt.alloc(), profile, lines)?;
+        let analysis = analyse(rt.alloc(), &show)?;
+        let text = report_text(rt.alloc(), &show, &analysis)?;
         assert!(rt; text.as_slice() == report.as_bytes(), "{lines}");
     }
+    Ok(())
+}
+
+// The line of the command that a line writes.
+fn written_again(alloc: Global, line: &[u8]) -> Result<Vec<u8>, Fail> {
+    match &read_command(line) {
+        Ok(command) => Ok(command_text(alloc, command)?),
+        Err(_) => Err(Fail::from("a command")),
+    }
+}
+
+#[test]
+fn lines_written_again(rt: HostRuntime) -> Result<(), Fail> {
+    for (line, again) in [
+        ("ban 470000 480000", "ban 470000 480000"),
+        ("ban 470000 480000 stage", "ban 470000 480000 stage"),
+        ("unban 1", "unban 1"),
+        ("unscan 16", "unscan 16"),
+        ("profiles p.toml", "profiles p.toml"),
+        ("products 500700 500900", "products 500700 500900"),
+        ("scan s.csv main -80 1 comma", "scan s.csv main -80 1 comma"),
+        (
+            "scan a;b main +070.2500 0 semicolon",
+            "scan a;b main 70.25 0 semicolon",
+        ),
+        (
+            "scan s.csv main -79.9999999999 1 tab",
+            "scan s.csv main -79.999999999 1 tab",
+        ),
+        (
+            "scan s.csv main -0.0000000009 1 tab",
+            "scan s.csv main 0 1 tab",
+        ),
+        (
+            "scan s.csv main -000000000.01 1 tab",
+            "scan s.csv main -0.01 1 tab",
+        ),
+        (
+            "profile P 500000 510000 25 350 0 100 50 0 0",
+            "profile P 500000 510000 25 350 0 100 50 0 0",
+        ),
+        ("range P 520000 530000 25", "range P 520000 530000 25"),
+        ("carrier a P main", "carrier a P main"),
+        ("time a 0 600", "time a 0 600"),
+        ("set a 500000", "set a 500000"),
+        ("free a", "free a"),
+        ("quit", "quit"),
+    ] {
+        let text = written_again(rt.alloc(), line.as_bytes())?;
+        assert!(rt; text.as_slice() == again.as_bytes(), "{line}");
+    }
+    Ok(())
+}
+
+const S2: &str =
+    "carrier a P main\ncarrier b P main\ncarrier c P main\nset a 500000\nset b 500400\nset c 500800";
+
+#[test]
+fn products_of_a_worked_show(rt: HostRuntime) -> Result<(), Fail> {
+    let alloc = rt.alloc();
+    let show = show_of(alloc, P, S2)?;
+    let lo = Khz::new(500700).ok_or(1u32)?;
+    let hi = Khz::new(500900).ok_or(1u32)?;
+    let listed = products(alloc, &show, lo, hi)?;
+    let text = products_text(alloc, &show, &listed)?;
+    let expected = "product 500800 2a-b b a\nproduct 500800 2a+b-2c c a b\nproducts 2\n";
+    assert!(rt; text.as_slice() == expected.as_bytes());
+    Ok(())
+}
+
+#[test]
+fn rows_of_worked_shows(rt: HostRuntime) -> Result<(), Fail> {
+    let header = "kind,source1,source2,source3,victim,product,distance,needs\n";
+    for (lines, count, rows) in [
+        (
+            S2,
+            "csv 2\n",
+            "2a-b,b,a,,c,500800,0,100\n2a-b,b,c,,a,500000,0,100\n",
+        ),
+        ("", "csv 0\n", ""),
+        (
+            "carrier a,b P main\ncarrier \"c\" P main\nset a,b 500010\nset \"c\" 500000",
+            "csv 2\n",
+            "off-grid,,,,\"a,b\",,,\nspacing,\"a,b\",\"\"\"c\"\"\",,,,10,350\n",
+        ),
+    ] {
+        let alloc = rt.alloc();
+        let show = show_of(alloc, P, lines)?;
+        let analysis = analyse(alloc, &show)?;
+        let text = csv_text(alloc, &show, &analysis)?;
+        let expected = format!(in alloc; "{count}{header}{rows}")?;
+        assert!(rt; text.as_slice() == expected.as_bytes(), "{lines}");
+    }
+    Ok(())
+}
+
+// Adds a scan without hot points.
+fn add_scan(alloc: Global, show: &mut Show) -> Result<(), Fail> {
+    let (Some(file), Some(zone)) = (FileName::read(b"s.csv"), Name::read(b"main")) else {
+        return Err(Fail::from("a name"));
+    };
+    let scan = Edit::AddScan {
+        file,
+        sep: Sep::Semicolon,
+        zone,
+        threshold: Decimal(-80_500_000_000),
+        width: 50,
+        hot: HotPoints::from_vec(Vec::new(alloc)),
+    };
+    let _ = show.apply(scan)?;
+    Ok(())
+}
+
+#[test]
+fn lines_of_worked_shows(rt: HostRuntime) -> Result<(), Fail> {
+    let alloc = rt.alloc();
+    let first = show_of(
+        alloc,
+        "zone z2",
+        "profile P 500000 510000 25 350 0 100 50 0 0\ncarrier a P main\ncarrier b P main\ncarrier c P z2\nset a 500000\nset b 500400\nset c 500800\ncouple main z2\ntime a 0 600\nlock a",
+    )?;
+    let text = show_text(alloc, &first)?;
+    let expected =
+        "# show 11\nzone z2\ncouple main z2\nprofile P 500000 510000 25 350 0 100 50 0 0\ncarrier a P main\ntime a 0 600\nset a 500000\nlock a\ncarrier b P main\nset b 500400\ncarrier c P z2\nset c 500800\n";
+    assert!(rt; text.as_slice() == expected.as_bytes());
+    let mut second = show_of(
+        alloc,
+        "zone x",
+        "zone y\ncouple y x\ncouple y main\nban 1 2 y\nban 470000 480000\nprofile P 500000 510000 25 350 1 2 3 4 5\nrange P 520000 530000 50",
+    )?;
+    add_scan(alloc, &mut second)?;
+    let text = show_text(alloc, &second)?;
+    let expected =
+        "# show 9\nzone x\nzone y\ncouple main y\ncouple x y\nprofile P 500000 510000 25 350 1 2 3 4 5\nrange P 520000 530000 50\nban 1 2 y\nban 470000 480000\nscan s.csv main -80.5 50 semicolon\n";
+    assert!(rt; text.as_slice() == expected.as_bytes());
     Ok(())
 }

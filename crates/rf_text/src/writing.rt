@@ -1,11 +1,18 @@
-ghost use Rattle.std.specs.Prelude.{◌≡◌, ◌++◌, IfOk, OnOk, Ok, string_bytes};
+ghost use Rattle.std.specs.Prelude.{◌≡◌, ◌++◌, ◌∷◌, [], IfOk, OnOk, Ok, decimal, string_bytes};
 ghost use Rattle.rf_text.specs.CommandTexts as spec;
 ghost use Rattle.rf_text.specs.Commands.{command_of};
+ghost use Rattle.rf_text.specs.Decimals.{decimal_text};
+ghost use Rattle.rf_text.specs.Lines.{joined, spaced};
+ghost use Rattle.rf_text.specs.Separators.{sep_text};
+ghost use Rattle.rf_text.specs.Verbs.{text_of};
 
 use crate::command::Command;
-use crate::edit_text::{write_edit, write_named, write_verb};
+use crate::decimal_text::write_decimal;
+use crate::edit_text::{write_edit, write_name, write_named, write_numbered, write_verb};
+use crate::separator::sep_text;
 use crate::verb::Verb;
-use rf_base::NoMemory;
+use rf_base::{Decimal, FileName, NoMemory};
+use rf_exclusions::Sep;
 use std::alloc::Global;
 
 /// The line of a command that some line has, without a line feed. Reading it gives the command.
@@ -19,16 +26,58 @@ pub fn command_text(alloc: Global, command: &Command) -> Result<Vec<u8>, NoMemor
     Ok(text.into_bytes())
 }
 
+/// Writes the line of a command, without a line feed; nothing where no line has it.
 #[tactic(auto, using(crate::proofs::LineLemmas::pieces), unfolding(crate::specs::EditTexts::edit_text))]
-fn write_command(text: &mut String, command: &Command) -> Result<(), NoMemory>
+pub(crate) fn write_command(text: &mut String, command: &Command) -> Result<(), NoMemory>
     ensures { OnOk result (string_bytes text.new ≡ string_bytes text.old ++ spec.command_text_of command.now) }
 {
     match command {
         Command::Change(edit) => write_edit(text, edit),
+        Command::Profiles { file } => write_filed(text, Verb::Profiles, file),
+        Command::Scan {
+            file,
+            zone,
+            threshold,
+            width,
+            sep,
+        } => {
+            write_filed(text, Verb::Scan, file)?;
+            write_name(text, zone)?;
+            write_reading(text, *threshold, *width, *sep)
+        }
         Command::Undo => write_verb(text, Verb::Undo),
         Command::Redo => write_verb(text, Verb::Redo),
         Command::Report => write_verb(text, Verb::Report),
+        Command::Csv => write_verb(text, Verb::Csv),
+        Command::Show => write_verb(text, Verb::Show),
         Command::Free { name } => write_named(text, Verb::Free, name),
+        Command::Products { lo, hi } => write_numbered(text, Verb::Products, &[*lo, *hi]),
         Command::Quit => write_verb(text, Verb::Quit),
     }
+}
+
+// Writes a verb and the name of a file.
+fn write_filed(text: &mut String, verb: Verb, file: &FileName) -> Result<(), NoMemory>
+    ensures { OnOk result (string_bytes text.new ≡ string_bytes text.old ++ joined (text_of verb ∷ file.now ∷ [])) }
+{
+    let verb = verb.text();
+    let file = file.text();
+    write!(text, "{verb} {file}")?;
+    Ok(())
+}
+
+// Writes how a scan is read, each part after a space.
+fn write_reading(
+    text: &mut String,
+    threshold: Decimal,
+    width: u32,
+    sep: Sep,
+) -> Result<(), NoMemory>
+    ensures { OnOk result (string_bytes text.new ≡ string_bytes text.old ++ spaced (decimal_text threshold.0 ∷ decimal width ∷ sep_text sep ∷ [])) }
+{
+    write!(text, " ")?;
+    write_decimal(text, threshold)?;
+    let sep = sep_text(sep);
+    write!(text, " {width} {sep}")?;
+    Ok(())
 }

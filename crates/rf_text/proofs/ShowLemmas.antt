@@ -1,0 +1,134 @@
+-- Lines of commands that are added one after another.
+use Rattle.std.proofs.Common.{◌≡◌, ◌<◌, ◌≤◌, ◌+◌, ◌-◌, ◌++◌, ◌∙◌, ℕ, List, [], ◌∷◌, Bool, true, false, length, length-append, map, filter, take, drop, get_or, length-drop, append-nil, append_assoc, arith, refl, sym, ap}
+use Rattle.std.specs.Prelude.{nat_eq, if◌then◌else◌, slice_get, Some, Result, Ok, Err, OnOk}
+use Rattle.std.specs.List.{flat_map, range_with_len}
+use Rattle.std.proofs.lemmas.Bool.Decides.{nat_tests}
+use Rattle.std.proofs.lemmas.List.{get_or-drop, take_all, take_more}
+use Rattle.std.proofs.lemmas.List.Elements.{filter-append}
+use Rattle.std.proofs.lemmas.Option.{get_or_from_slice_get, slice_get_within}
+use Rattle.std.proofs.lemmas.List.Concat.{flat_map-append}
+use Rattle.rf_profiles.specs.Range.{Span}
+use Rattle.rf_profiles.specs.declared.profile.Profile.{Profile}
+use Rattle.rf_zones.specs.Zones.{ZonesData, heard, is_coupled}
+use Rattle.rf_show.specs.declared.edit.Edit.TheVariants as edit
+use Rattle.rf_text.specs.declared.command.Command.{Command}
+use Rattle.rf_text.specs.declared.command.Command.TheVariants.{Change}
+use Rattle.rf_text.specs.declared.command_lines.CommandLines.{CommandLines}
+use Rattle.rf_text.specs.Shows.{Adds, IsCounted, coupling, couplings_of, first_range_line, range_line, ranges_lines, zone_line, zone_name}
+use Rattle.rf_text.proofs.RunLemmas.{range_parts}
+
+pub adds_none : (lines : CommandLines) → IsCounted lines → Adds lines lines []
+adds_none lines h = record { text = rw append-nil refl; count = omega arith; counted = h }
+
+-- some lines, and then others
+pub adds_both : (old next new : CommandLines) (commands more : List Command) → Adds old next commands → Adds next new more → Adds old new (commands ++ more)
+adds_both old next new commands more a b =
+    let first = a.text in
+    let added = b.text in
+    let long = length-append commands more in
+    record {
+      text = rw (added, first) (simp (flat_map-append, append_assoc) refl);
+      count = omega (arith, a.count, b.count, long);
+      counted = b.counted;
+    }
+
+-- the lines of one element more
+pub adds_more : {X : Type 0} (old next new : CommandLines) (f : X → List Command) (xs : List X) (index : ℕ) (x : X) → index < length xs
+    → Adds old next (flat_map f (take index xs)) → Adds next new (f (get_or xs index x)) → Adds old new (flat_map f (take (index + 1) xs))
+adds_more old next new f xs index x inside a b =
+    let taken = take_more xs index x inside in
+    rw (taken, flat_map-append, append-nil) (adds_both old next new (flat_map f (take index xs)) (f (get_or xs index x)) a b)
+
+pub adds_all : {X : Type 0} (old new : CommandLines) (f : X → List Command) (xs : List X) (index : ℕ) → length xs ≤ index
+    → Adds old new (flat_map f (take index xs)) → Adds old new (flat_map f xs)
+adds_all old new f xs index h a = let all = take_all index xs h in rw all at a
+
+map-push : {X Y : Type 0} (f : X → Y) (xs : List X) (x : X) → map f (xs ++ x ∷ []) ≡ map f xs ++ f x ∷ []
+map-push f [] x = refl
+map-push f (y ∷ xs) x = ap (λ more. f y ∷ more) (map-push f xs x)
+
+-- the line of one element more
+pub adds_one : {X : Type 0} (old next new : CommandLines) (f : X → Command) (xs : List X) (index : ℕ) (x : X) → index < length xs
+    → Adds old next (map f (take index xs)) → Adds next new (f (get_or xs index x) ∷ []) → Adds old new (map f (take (index + 1) xs))
+adds_one old next new f xs index x inside a b =
+    let taken = take_more xs index x inside in
+    rw (taken, map-push) (adds_both old next new (map f (take index xs)) (f (get_or xs index x) ∷ []) a b)
+
+pub adds_each : {X : Type 0} (old new : CommandLines) (f : X → Command) (xs : List X) (index : ℕ) → length xs ≤ index
+    → Adds old new (map f (take index xs)) → Adds old new (map f xs)
+adds_each old new f xs index h a = let all = take_all index xs h in rw all at a
+
+-- ---- zones
+
+both : {X Y : Type 0} (f : X → Y) (test : Bool) (xs : List X) (x : X) → map f (xs ++ (if test then x ∷ [] else [])) ≡ map f xs ++ (if test then f x ∷ [] else [])
+both f true xs x = map-push f xs x
+both f false xs x = rw append-nil (sym (append-nil (map f xs)))
+
+mapped : {X Y : Type 0} (f : X → Y) (p : X → Bool) (xs : List X) (x : X) → map f (xs ++ (if p x then x ∷ [] else [])) ≡ map f xs ++ (if p x then f x ∷ [] else [])
+mapped f p xs x = both f (p x) xs x
+
+-- one zone more
+pub zones_more : (old next new : CommandLines) (names : List (List ℕ)) (z : ℕ) (name : List ℕ) → 1 ≤ z → slice_get names z ≡ Some name
+    → Adds old next (map zone_line (take (z - 1) (drop 1 names))) → Adds next new (zone_line name ∷ [])
+    → Adds old new (map zone_line (take (z + 1 - 1) (drop 1 names)))
+zones_more old next new names z name low is a b =
+    let index : z + 1 - 1 ≡ z - 1 + 1 = omega arith in
+    let place : 1 + (z - 1) ≡ z = omega arith in
+    let long = length-drop 1 names in
+    let here : get_or (drop 1 names) (z - 1) name ≡ name =
+    get_or-drop 1 names (z - 1) name ∙ ap (λ i. get_or names i name) place ∙ get_or_from_slice_get names z name name is in
+    rw index (adds_one old next new zone_line (drop 1 names) (z - 1) name (omega (arith, long, slice_get_within names z name is)) a (rw here b))
+
+-- a name where there is one
+name_of_zone : (zones : ZonesData) (z : ℕ) (name : List ℕ) → slice_get zones.names z ≡ Some name → zone_name zones z ≡ name
+name_of_zone zones z name is = get_or_from_slice_get zones.names z name [] is
+
+-- the couplings with the zones before one, and with it
+pub couplings_more : (zones : ZonesData) (a b : ℕ) → a + 1 ≤ b
+    → map (coupling zones a) (filter (is_coupled zones a) (range_with_len (a + 1) (b + 1 - (a + 1))))
+    ≡ map (coupling zones a) (filter (is_coupled zones a) (range_with_len (a + 1) (b - (a + 1))))
+    ++ (if is_coupled zones a b then coupling zones a b ∷ [] else [])
+couplings_more zones a b h =
+    let parts = range_parts (a + 1) (b - (a + 1)) 1 (b + 1 - (a + 1)) b (omega arith) (omega arith) in
+    rw (parts, filter-append) (mapped (coupling zones a) (is_coupled zones a) (filter (is_coupled zones a) (range_with_len (a + 1) (b - (a + 1)))) b)
+
+apart : (a b : ℕ) → a < b → nat_eq a b ≡ false
+apart a b h = grind (arith, nat_tests)
+
+-- a zone that is coupled
+pub coupled_more : (old next new : CommandLines) (zones : ZonesData) (a b : ℕ) (name other : List ℕ) → a + 1 ≤ b → heard zones a b ≡ true
+    → slice_get zones.names a ≡ Some name → slice_get zones.names b ≡ Some other
+    → Adds old next (map (coupling zones a) (filter (is_coupled zones a) (range_with_len (a + 1) (b - (a + 1)))))
+    → Adds next new (Change (edit.Couple name other) ∷ [])
+    → Adds old new (map (coupling zones a) (filter (is_coupled zones a) (range_with_len (a + 1) (b + 1 - (a + 1)))))
+coupled_more old next new zones a b name other h hears first second x y =
+    let is : is_coupled zones a b ≡ true = rw (apart a b (omega arith)) at hears in
+    let one = name_of_zone zones a name first in
+    let two = name_of_zone zones b other second in
+    rw (couplings_more zones a b h, is, one, two) (adds_both old next new _ (Change (edit.Couple name other) ∷ []) x y)
+
+-- a zone that is not
+pub uncoupled_more : (old next : CommandLines) (zones : ZonesData) (a b : ℕ) → a + 1 ≤ b → heard zones a b ≡ false
+    → Adds old next (map (coupling zones a) (filter (is_coupled zones a) (range_with_len (a + 1) (b - (a + 1)))))
+    → Adds old next (map (coupling zones a) (filter (is_coupled zones a) (range_with_len (a + 1) (b + 1 - (a + 1)))))
+uncoupled_more old next zones a b h hears x =
+    let is : is_coupled zones a b ≡ false = rw (apart a b (omega arith)) at hears in
+    rw (couplings_more zones a b h, is, append-nil) x
+
+-- the couplings of one zone more
+pub couplings_of_more : (old next new : CommandLines) (zones : ZonesData) (a : ℕ) → Adds old next (flat_map (couplings_of zones) (range_with_len 0 a))
+    → Adds next new (couplings_of zones a) → Adds old new (flat_map (couplings_of zones) (range_with_len 0 (a + 1)))
+couplings_of_more old next new zones a x y =
+    let parts = range_parts 0 a 1 (a + 1) a refl (omega arith) in
+    rw (parts, flat_map-append, append-nil) (adds_both old next new _ (couplings_of zones a) x y)
+
+-- ---- profiles
+
+pub ranges_split : (p : Profile) (ranges : List Span) (d : Span) → 1 ≤ length ranges
+    → ranges_lines p ranges ≡ first_range_line p (get_or ranges 0 d) ∷ map (range_line p.name) (take (length ranges - 1) (drop 1 ranges))
+ranges_split p [] d h = absurd (omega arith)
+ranges_split p (r ∷ ranges) d h = let all = take_all (length (r ∷ ranges) - 1) ranges (omega arith) in rw all refl
+
+pub on_ok : {T E : Type 0} {P Q : Type 0} (result : Result T E) → (P → Q) → OnOk result P → OnOk result Q
+on_ok (Ok x) f h = f h
+on_ok (Err e) f h = tt
