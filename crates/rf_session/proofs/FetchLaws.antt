@@ -1,11 +1,14 @@
 -- What the shelf brought, one time after another.
-use Rattle.std.proofs.Common.{◌≡◌, ◌≤◌, ◌+◌, ◌-◌, ◌^◌, min, ◌||◌, ℕ, Bool, true, false, List, [], ◌∷◌, ◌++◌, count_by, refl, sym, ◌∙◌, subst, arith, cond}
+use Rattle.std.proofs.Common.{◌≡◌, ◌≢◌, ◌≤◌, ◌+◌, ◌-◌, ◌^◌, min, ◌||◌, ℕ, Bool, true, false, List, [], ◌∷◌, ◌++◌, count_by, refl, sym, ◌∙◌, subst, arith, cond}
 use Rattle.std.specs.List.{list_any}
+use Rattle.std.specs.Str.{bytes_eq}
+use Rattle.std.proofs.lemmas.Bool.{false≢true}
+use Rattle.std.proofs.lemmas.Slice.Eq.{bytes_eq-Decides}
 use Rattle.std.proofs.lemmas.List.Elements.{All-nil, All-cons, All-append}
 use Rattle.std.proofs.lemmas.List.Folds.{list_any-append}
 use Rattle.std.proofs.lemmas.List.Sums.{sum_by-append}
 use Rattle.std.specs.declared.option.Option.{Option}
-use Rattle.rf_session.specs.Fetches.{Fetched, absent, of_file, Outside, MayCome, MayBring, asks_for, Brought, KeptCounts}
+use Rattle.rf_session.specs.Fetches.{Fetched, absent, of_file, Got, Outside, MayCome, MayBring, asks_for, Brought, KeptCounts, Obeyed}
 
 pub count_by-append : {X : Type 0} (p : X → Bool) (xs ys : List X) → count_by p (xs ++ ys) ≡ count_by p xs + count_by p ys
 count_by-append p xs ys = sum_by-append (λ x. cond (p x) 1 0) xs ys
@@ -49,4 +52,29 @@ Brought-absent before after files counts = record {
   told = All-cons (MayBring before.file) absent [] tt (All-nil (MayBring before.file));
   bound = λ name. let same : after.faults name ≡ before.faults name = counts name in omega arith;
   same = files;
+}
+
+-- the count of a file for which the one fetch asked not stayed as it was
+KeptCounts-file : (before after : Outside) (name : List ℕ) (got : Got) → ((other : List ℕ) → other ≢ name → after.faults other ≡ before.faults other) →
+    KeptCounts before after (of_file name got ∷ [])
+KeptCounts-file before after name got others = λ other none. others other (λ same.
+    false≢true (sym (either_false (bytes_eq name other) false none).0 ∙ (bytes_eq-Decides name other).1 (sym same)))
+
+-- a line that names no file was obeyed
+pub Obeyed-absent : (step : Fetched → Type 0) (o : Outside) → step absent → Obeyed step o o
+Obeyed-absent step o took = record {
+  fetched = absent;
+  took = took;
+  brought = Brought-absent o o (λ name. refl) (λ name. refl);
+  kept = λ name none. refl;
+}
+
+-- a line that names a file was obeyed
+pub Obeyed-file : (step : Fetched → Type 0) (before after : Outside) (name : List ℕ) (got : Got) → step (of_file name got) →
+    Brought before after (of_file name got ∷ []) → ((other : List ℕ) → other ≢ name → after.faults other ≡ before.faults other) → Obeyed step before after
+Obeyed-file step before after name got took brought others = record {
+  fetched = of_file name got;
+  took = took;
+  brought = brought;
+  kept = KeptCounts-file before after name got others;
 }

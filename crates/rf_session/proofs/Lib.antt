@@ -3,3 +3,5 @@ pub mod Follows
 pub mod Runs
 pub mod Serving
 pub mod Starting
+pub mod Obeying
+pub mod UnfetchedLaws

@@ -11,15 +11,18 @@ use Rattle.rf_base.specs.Reader.{input_of, pending_of}
 use Rattle.rf_base.specs.Script.{Line}
 use Rattle.rf_base.specs.Told.{WhereTold}
 use Rattle.rf_base.proofs.Told.{WhereTold-same, WhereTold-weaker}
+use Rattle.rf_session.specs.declared.machine.Stop.{Stop}
 use Rattle.rf_session.specs.declared.machine.Stop.TheVariants.{Write as ByWrite, Memory as ByMemory}
 use Rattle.rf_session.specs.Fetches.{Fetched, absent, Outside}
-use Rattle.rf_session.specs.Run.{answered, Step, Cut}
-use Rattle.rf_session.specs.Session.{Breaks, Finishes, Ends}
+use Rattle.rf_session.specs.Run.{answered, Answered, Step, Cut}
+use Rattle.rf_session.specs.Session.{Breaks, BreaksOff, Finishes, Ends}
 use Rattle.rf_session.specs.Top.{script, script_limit, Headline, RepliesToTaken, RepliesToAll, RepliesToSome, IsReadThrough, EndsWell, Serves}
 use Rattle.rf_session.specs.Shows.{Steps, Parts}
 use Rattle.rf_editor.specs.History.{History, first_history}
 use Rattle.rf_session.proofs.FetchLaws.{Brought-absent}
+use Rattle.rf_session.specs.Unfetched.{IsBounded}
 use Rattle.rf_session.proofs.Runs.{Appends-none}
+use Rattle.rf_session.proofs.UnfetchedLaws.{IsBounded-broken, IsBounded-run}
 
 -- nothing was written
 breaks_none : (cuts : Line → Fetched → List ℕ → Type 0) (lines : List Line) → Breaks cuts lines absent []
@@ -81,6 +84,17 @@ module _ (before after : Outside) (s s' : Option (List ℕ)) where
   told_of status named P is told ends = WhereTold-weaker s s' _ _ told (λ x y serves.
       ends x y (subst (λ (st : Status). Serves st before after x y) is serves))
 
+  bounded_all : (lines : List Line) (old last : History) (refusal : Bool) (all : Answered (Step Steps) old last before after lines refusal) →
+      IsBounded before after lines all.replies
+  bounded_all lines old last refusal all = IsBounded-run old last before after lines all.fetches all.replies all.run all.brought.bound
+
+  some_bounded : (stop : Stop) (bytes : List ℕ) → BreaksOff (Step Steps) (λ state. Cut Parts state stop) first_history before after (script bytes) →
+      RepliesToSome stop before after bytes
+  some_bounded stop bytes some = record {
+    some = some;
+    shelf = IsBounded-broken first_history some.mid before after some.done some.fetches some.replies some.last some.run some.bound;
+  }
+
   finishes : (refusal : Bool) (x y : List ℕ) (serves : Serves (if refusal then Refused else Done) before after x y) →
       Finishes (Step Steps) first_history serves.last before after (script x) refusal
   finishes true x y serves = serves.ends
@@ -88,7 +102,9 @@ module _ (before after : Outside) (s s' : Option (List ℕ)) where
 
   pub Serves-headline : (status : Status) → WhereTold s s' (Serves status before after) → (refusal : Bool) → status ≡ (if refusal then Refused else Done) →
       WhereTold s s' (λ bytes _. Headline before after bytes refusal)
-  Serves-headline status told refusal is = told_of status _ _ is told (λ x y serves. record { last = serves.last; all = (finishes refusal x y serves).all })
+  Serves-headline status told refusal is = told_of status _ _ is told (λ x y serves.
+      let all = (finishes refusal x y serves).all in
+      record { last = serves.last; all = all; shelf = bounded_all _ _ _ refusal all })
 
   pub Serves-through : (status : Status) → WhereTold s s' (Serves status before after) → (refusal : Bool) → status ≡ (if refusal then Refused else Done) →
       WhereTold s s' (λ bytes _. IsReadThrough bytes)
@@ -100,6 +116,7 @@ module _ (before after : Outside) (s s' : Option (List ℕ)) where
     last = serves.last;
     refusal = serves.ends.refusal;
     all = serves.ends.all;
+    shelf = bounded_all _ _ _ serves.ends.refusal serves.ends.all;
     long = serves.ends.long;
     no_quit = serves.ends.no_quit;
   })
@@ -113,16 +130,17 @@ module _ (before after : Outside) (s s' : Option (List ℕ)) where
     last = serves.last;
     refusal = serves.ends.refusal;
     all = serves.ends.all;
+    shelf = bounded_all _ _ _ serves.ends.refusal serves.ends.all;
     no_quit = serves.ends.no_quit;
   })
 
   pub Serves-write : (status : Status) → WhereTold s s' (Serves status before after) → status ≡ Write →
       WhereTold s s' (λ bytes _. RepliesToSome ByWrite before after bytes)
-  Serves-write status told is = told_of status Write _ is told (λ x y serves. serves.ends)
+  Serves-write status told is = told_of status Write _ is told (λ x y serves. some_bounded _ x serves.ends)
 
   pub Serves-memory : (status : Status) → WhereTold s s' (Serves status before after) → status ≡ Memory →
       WhereTold s s' (λ bytes _. RepliesToSome ByMemory before after bytes)
-  Serves-memory status told is = told_of status Memory _ is told (λ x y serves. serves.ends)
+  Serves-memory status told is = told_of status Memory _ is told (λ x y serves. some_bounded _ x serves.ends)
 
   pub Serves-well : (status : Status) → WhereTold s s' (Serves status before after) → (status ≡ Read → ⊥) → (status ≡ Write → ⊥) →
       (status ≡ Words → ⊥) → (status ≡ Shelf → ⊥) → IsSomeAnd s (λ bytes. length bytes ≤ script_limit) → EndsWell status

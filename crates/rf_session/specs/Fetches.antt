@@ -1,5 +1,5 @@
 -- What lines fetch from the shelf.
-use Rattle.std.specs.Prelude.{◌≡◌, ◌≤◌, ◌<◌, ◌+◌, ◌-◌, ◌^◌, min, ℕ, Bool, false, List, length, count_by, All, Some, None}
+use Rattle.std.specs.Prelude.{◌≡◌, ◌≤◌, ◌<◌, ◌+◌, ◌-◌, ◌^◌, min, ℕ, Bool, false, List, [], ◌∷◌, length, count_by, All, Some, None}
 use Rattle.std.specs.List.{list_any}
 use Rattle.std.specs.Str.{bytes_eq}
 use Rattle.std.specs.declared.option.Option.{Option}
@@ -22,6 +22,10 @@ pub record Outside : Type 0 where
   pub written : Option (List ℕ)
   pub file : List ℕ → Option (Option (List ℕ))
   pub faults : List ℕ → ℕ
+
+-- an outside of which the shelf alone is looked at
+abbrev pub shelf_alone : (List ℕ → Option (Option (List ℕ))) → (List ℕ → ℕ) → Outside
+shelf_alone file faults = record { written = None; file = file; faults = faults }
 
 abbrev pub outside : Option (List ℕ) → (List ℕ → Option (Option (List ℕ))) → (List ℕ → ℕ) → Outside
 outside written file faults = record { written = written; file = file; faults = faults }
@@ -68,6 +72,18 @@ pub record Brought (before after : Outside) (fetches : List Fetched) : Type 0 wh
 -- the count of a file for which nothing asked stayed as it was
 abbrev pub KeptCounts : Outside → Outside → List Fetched → Type 0
 KeptCounts before after fetches = (name : List ℕ) → list_any (asks_for name) fetches ≡ false → after.faults name ≡ before.faults name
+
+-- the fetch of a line that names this file, or none, where this came of the file
+abbrev pub fetch_of : Option (List ℕ) → Got → Fetched
+fetch_of None got = absent
+fetch_of (Some name) got = of_file name got
+
+-- A line was obeyed: what its fetch came to, and that the shelf brought it.
+pub record Obeyed (step : Fetched → Type 0) (before after : Outside) : Type 0 where
+  pub fetched : Fetched
+  pub took : step fetched
+  pub brought : Brought before after (fetched ∷ [])
+  pub kept : KeptCounts before after (fetched ∷ [])
 
 -- what came of a file
 abbrev pub got_of : File → Got

@@ -1,8 +1,11 @@
 pub mod Fetches
+pub mod Files
 pub mod Reply
 pub mod Run
+pub mod ScanLines
 pub mod Session
 pub mod Shows
 pub mod Top
 pub mod Turn
+pub mod Unfetched
 pub mod Words

@@ -4,9 +4,9 @@ use Rattle.std.specs.List.{concat, list_any}
 use Rattle.rf_show.specs.declared.refusal.Refusal.{Refusal}
 use Rattle.rf_show.specs.declared.refusal.Refusal.TheVariants as refusal
 use Rattle.rf_session.specs.declared.reply.Code.{Code}
-use Rattle.rf_session.specs.declared.reply.Code.TheVariants.{UnknownLine, Unknown, Taken, Number, InUse, NoStep, NoFrequency, Locked, Full, LongLine}
+use Rattle.rf_session.specs.declared.reply.Code.TheVariants.{UnknownLine, Unknown, Taken, Number, InUse, NoStep, NoFrequency, Locked, Full, ShelfFault, LongLine}
 use Rattle.rf_session.specs.declared.reply.Reply.{Reply}
-use Rattle.rf_session.specs.declared.reply.Reply.TheVariants.{Accepted, Text, Error}
+use Rattle.rf_session.specs.declared.reply.Reply.TheVariants.{Accepted, Text, Error, BadFile}
 
 -- the code of a refused edit
 abbrev pub code_of : Refusal → Code
@@ -29,6 +29,7 @@ refusal_text NoStep = codes "error E6\n"
 refusal_text NoFrequency = codes "error E7\n"
 refusal_text Locked = codes "error E8\n"
 refusal_text Full = codes "error E9\n"
+refusal_text ShelfFault = codes "error E11\n"
 refusal_text LongLine = codes "error E12\n"
 
 -- the bytes of a reply
@@ -36,11 +37,13 @@ abbrev pub text_of : Reply → List ℕ
 text_of Accepted = codes "ok\n"
 text_of (Text text) = text
 text_of (Error code) = refusal_text code
+text_of (BadFile text) = text
 
 abbrev pub is_refusal : Reply → Bool
 is_refusal Accepted = false
 is_refusal (Text text) = false
 is_refusal (Error code) = true
+is_refusal (BadFile text) = true
 
 abbrev pub texts : List Reply → List ℕ
 texts replies = concat (map text_of replies)

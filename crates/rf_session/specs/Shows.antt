@@ -1,21 +1,32 @@
 -- The machine of a session: what it replies to a line, and its history after it.
-use Rattle.std.specs.Prelude.{◌≡◌, ℕ, List, Option, Some, None, Result, Ok, Err, ok_or, position}
+use Rattle.std.specs.Prelude.{◌≡◌, ◌&&◌, if◌then◌else◌, nat_le, ℕ, List, Option, Some, None, Result, Ok, Err, ok_or, position}
+use Rattle.rf_base.specs.Khz.{is_khz}
+use Rattle.rf_base.specs.declared.decimal.Decimal.{Decimal}
+use Rattle.rf_exclusions.specs.declared.scan_set.Sep.{Sep}
+use Rattle.rf_profiles.specs.declared.profile.Profile.{Profile}
 use Rattle.rf_show.specs.Show.{ShowData, is_carrier}
+use Rattle.rf_show.specs.declared.edit.Edit.{Edit}
+use Rattle.rf_show.specs.declared.edit.Edit.TheVariants as edit
 use Rattle.rf_show.specs.declared.refusal.Refusal.{Refusal}
 use Rattle.rf_editor.specs.History.{History, edited_history, undone, redone}
 use Rattle.rf_rules.specs.Analyses.{analysed}
+use Rattle.rf_rules.specs.Products.{listed}
 use Rattle.rf_text.specs.declared.command.Command.{Command}
 use Rattle.rf_text.specs.declared.command.Command.TheVariants as command
 use Rattle.rf_text.specs.declared.command.UnknownLine.{UnknownLine}
 use Rattle.rf_text.specs.Commands.{command_of}
+use Rattle.rf_text.specs.Csv.{csv_text_of}
 use Rattle.rf_text.specs.Free.{free_text_of}
-use Rattle.rf_text.specs.Reports.{report_text_of}
+use Rattle.rf_text.specs.Reports.{products_text_of, report_text_of}
+use Rattle.rf_text.specs.Shows.{show_text_of}
+use Rattle.rf_session.specs.declared.file_fault.FileFault.{FileFault}
 use Rattle.rf_session.specs.declared.machine.Stop.{Stop}
 use Rattle.rf_session.specs.declared.reply.Code.{Code}
-use Rattle.rf_session.specs.declared.reply.Code.TheVariants.{UnknownLine as IsUnknownLine, Unknown, NoStep}
+use Rattle.rf_session.specs.declared.reply.Code.TheVariants.{UnknownLine as IsUnknownLine, Unknown, Number, NoStep}
 use Rattle.rf_session.specs.declared.reply.Reply.{Reply}
 use Rattle.rf_session.specs.declared.reply.Reply.TheVariants.{Accepted, Text, Error}
-use Rattle.rf_session.specs.Fetches.{Fetched, absent}
+use Rattle.rf_session.specs.Fetches.{Fetched, absent, fetch_of, Got}
+use Rattle.rf_session.specs.Files.{fault_reply, hot_in, profiles_in}
 use Rattle.rf_session.specs.Reply.{code_of}
 use Rattle.rf_session.specs.Run.{PartOf}
 
@@ -24,54 +35,77 @@ pub record Outcome : Type 0 where
   pub reply : Reply
   pub history : History
 
--- the history moves, and the reply is `ok`
-abbrev pub moves : Result History Code → Result Outcome Code
-moves (Ok history) = Ok (record { reply = Accepted; history = history })
-moves (Err code) = Err code
+abbrev pub outcome_of : Reply → History → Outcome
+outcome_of reply history = record { reply = reply; history = history }
+
+-- the history moves, and the reply is `ok`; where it is refused it stays
+abbrev pub moved : History → Result History Code → Outcome
+moved old (Ok history) = outcome_of Accepted history
+moved old (Err code) = outcome_of (Error code) old
 
 -- an edit is made, or refused by the code of its refusal
 abbrev pub coded : Result History Refusal → Result History Code
 coded (Ok history) = Ok history
 coded (Err refusal) = Err (code_of refusal)
 
+abbrev pub edited : History → Edit → Outcome
+edited history edit = moved history (coded (edited_history history edit))
+
+-- the edit of a file is made, or the file is refused
+abbrev pub edited_by : History → Result Edit FileFault → Outcome
+edited_by history (Ok edit) = edited history edit
+edited_by history (Err why) = outcome_of (fault_reply why) history
+
 -- the history stays, and the reply is a text
-abbrev pub tells : History → Result (List ℕ) Code → Result Outcome Code
-tells history (Ok text) = Ok (record { reply = Text text; history = history })
-tells history (Err code) = Err code
+abbrev pub told : History → Result (List ℕ) Code → Outcome
+told history (Ok text) = outcome_of (Text text) history
+told history (Err code) = outcome_of (Error code) history
 
 -- the text of the free channels of the carrier at this place
 abbrev pub free_at : ShowData → Option ℕ → Result (List ℕ) Code
 free_at show (Some place) = Ok (free_text_of show place)
 free_at show None = Err Unknown
 
--- what a command comes to, or why it is refused
-abbrev pub outcome : History → Command → Result Outcome Code
-outcome history (command.Change edit) = moves (coded (edited_history history edit))
-outcome history command.Undo = moves (ok_or (undone history) NoStep)
-outcome history command.Redo = moves (ok_or (redone history) NoStep)
-outcome history command.Report = tells history (Ok (report_text_of history.show.carriers (analysed history.show)))
-outcome history (command.Free name) = tells history (free_at history.show (position (is_carrier name) history.show.carriers))
-outcome history command.Quit = moves (Ok history)
+-- the text of the products between two frequencies, which are in order
+abbrev pub products_at : ShowData → ℕ → ℕ → Result (List ℕ) Code
+products_at show lo hi =
+    if is_khz lo && is_khz hi && nat_le lo hi then Ok (products_text_of show.carriers (listed show lo hi)) else Err Number
 
-abbrev pub reply_by : Result Outcome Code → Reply
-reply_by (Ok outcome) = outcome.reply
-reply_by (Err code) = Error code
+-- the edit that adds the profiles of a file
+abbrev pub profiles_edit : Result (List Profile) FileFault → Result Edit FileFault
+profiles_edit (Ok list) = Ok (edit.AddProfiles list)
+profiles_edit (Err why) = Err why
 
--- a refused command leaves the history as it is
-abbrev pub history_by : History → Result Outcome Code → History
-history_by old (Ok outcome) = outcome.history
-history_by old (Err code) = old
+-- the edit that adds a scan with the hot points of a file
+abbrev pub scan_edit : List ℕ → List ℕ → Decimal → ℕ → Sep → Result (List ℕ) FileFault → Result Edit FileFault
+scan_edit file zone threshold width sep (Ok hot) = Ok (edit.AddScan file sep zone threshold width hot)
+scan_edit file zone threshold width sep (Err why) = Err why
 
--- the reply to a command, and the history after it
-abbrev pub reply_to : History → Command → Reply
-reply_to history command = reply_by (outcome history command)
+-- the file that a command names
+abbrev pub file_of : Command → Option (List ℕ)
+file_of (command.Profiles file) = Some file
+file_of (command.Scan file zone threshold width sep) = Some file
+file_of _ = None
 
-abbrev pub history_after : History → Command → History
-history_after history command = history_by history (outcome history command)
+-- What a command comes to, where this came of the file that it names; a command that names none doesn't look at it.
+abbrev pub outcome : History → Command → Got → Outcome
+outcome history (command.Change edit) got = edited history edit
+outcome history (command.Profiles file) got = edited_by history (profiles_edit (profiles_in got))
+outcome history (command.Scan file zone threshold width sep) got = edited_by history (scan_edit file zone threshold width sep (hot_in sep threshold got))
+outcome history command.Undo got = moved history (ok_or (undone history) NoStep)
+outcome history command.Redo got = moved history (ok_or (redone history) NoStep)
+outcome history command.Report got = told history (Ok (report_text_of history.show.carriers (analysed history.show)))
+outcome history command.Csv got = told history (Ok (csv_text_of history.show.carriers (analysed history.show)))
+outcome history command.Show got = told history (Ok (show_text_of history.show))
+outcome history (command.Free name) got = told history (free_at history.show (position (is_carrier name) history.show.carriers))
+outcome history (command.Products lo hi) got = told history (products_at history.show lo hi)
+outcome history command.Quit got = moved history (Ok history)
 
--- what the machine does with what a line says
+-- What the machine does with what a line says. A file that it names is fetched before anything else of it is judged; a fault of
+-- the shelf is answered E11, and nothing else is, so there are as many replies E11 for a name as its fetches that were faults.
 abbrev pub Obeys : History → Result Command UnknownLine → Fetched → Reply → History → Type 0
-Obeys old (Ok command) fetched reply new = (fetched ≡ absent) × (reply ≡ reply_to old command) × (new ≡ history_after old command)
+Obeys old (Ok command) fetched reply new =
+    (got : Got) × (fetched ≡ fetch_of (file_of command) got) × (reply ≡ (outcome old command got).reply) × (new ≡ (outcome old command got).history)
 Obeys old (Err unknown) fetched reply new = (fetched ≡ absent) × (reply ≡ Error IsUnknownLine) × (new ≡ old)
 
 -- One step of the show machine: the reply to a line, and the history after it.

@@ -2,6 +2,7 @@
 #![tactic(auto)]
 
 mod file;
+mod file_fault;
 mod machine;
 mod reply;
 mod session;

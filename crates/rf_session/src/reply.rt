@@ -31,6 +31,8 @@ pub enum Code {
     Locked,
     /// E9: there are as many as there may be.
     Full,
+    /// E11: the shelf failed at the line's file.
+    ShelfFault,
     /// E12: the line is longer than a line may be.
     LongLine,
 }
@@ -50,6 +52,7 @@ impl Code {
             Code::NoFrequency => b"error E7\n",
             Code::Locked => b"error E8\n",
             Code::Full => b"error E9\n",
+            Code::ShelfFault => b"error E11\n",
             Code::LongLine => b"error E12\n",
         }
     }
@@ -80,6 +83,8 @@ pub enum Reply {
     Text(Items<u8>),
     /// It is refused, and the machine is as before.
     Error(Code),
+    /// Its file is refused, by this reply line of E10, and the machine is as before.
+    BadFile(Items<u8>),
 }
 
 impl Reply {
@@ -91,6 +96,7 @@ impl Reply {
             Reply::Accepted => b"ok\n",
             Reply::Text(text) => text.as_slice(),
             Reply::Error(code) => code.text(),
+            Reply::BadFile(text) => text.as_slice(),
         }
     }
 
@@ -98,7 +104,7 @@ impl Reply {
     pub fn is_refusal(&self) -> bool
         ensures { result ≡ spec.is_refusal self.now }
     {
-        matches!(self, Reply::Error(_))
+        matches!(self, Reply::Error(_) | Reply::BadFile(_))
     }
 }
 

@@ -1,21 +1,38 @@
 //! The machine of a session: a show that is edited, and what lines ask of it.
 
-ghost use Rattle.std.specs.Prelude.{◌≡◌, IfOk, IsTrue, position};
+ghost use Rattle.std.specs.Prelude.{◌≡◌, ◌≤◌, ℕ, List, Ok, IfOk, IsTrue, position};
 ghost use Rattle.rf_show.specs.Show.{is_carrier};
 ghost use Rattle.rf_editor.specs.History.{first_history};
 ghost use Rattle.rf_show.specs.After.{is_edit};
 ghost use Rattle.rf_text.specs.Commands.{IsAskable};
-ghost use Rattle.rf_session.specs.Fetches.{absent};
+ghost use Rattle.rf_session.specs.Fetches.{fault, got_of, shelf_alone, Obeyed};
+ghost use Rattle.rf_session.specs.Files.{IsSmall};
+ghost use Rattle.rf_session.specs.ScanLines.{scan_command};
 ghost use Rattle.rf_session.specs.Shows as spec;
 
+use crate::file::{File, fetch_file, hot_in, profiles_in};
+use crate::file_fault::refuse_file;
 use crate::machine::{Machine, Stop};
 use crate::reply::{Code, Reply, say};
-use rf_base::{Items, Name, NoMemory, Shelf, Sink};
+use rf_base::{Decimal, FileName, Items, Khz, Name, NoMemory, Shelf, Sink};
 use rf_editor::{EditFault, Editor, StepFault};
+use rf_exclusions::Sep;
 use rf_show::{Carrier, Edit};
-use rf_text::{Command, UnknownLine, free_text, read_command, report_text};
+use rf_text::{
+    Command, UnknownLine, csv_text, free_text, products_text, read_command, report_text, show_text,
+};
 use std::alloc::Global;
 use std::marker::Model;
+
+/// A scan as its line gives it.
+#[derive(Clone, Copy)]
+struct ScanLine {
+    file: FileName,
+    zone: Name,
+    threshold: Decimal,
+    width: u32,
+    sep: Sep,
+}
 
 /// A show with its history, and what answers lines from it.
 #[derive(Drop)]
@@ -43,36 +60,101 @@ impl ShowMachine {
         })
     }
 
-    /// Does what a line asks for, and gives the reply.
-    fn obey(&mut self, line: &[u8]) -> Result<Reply, NoMemory>
-        ensures { IfOk result (λ reply. spec.Steps self.old line.now absent reply self.new) }
+    /// Does what a line asks for, and gives the reply. A file that the line names is fetched first.
+    fn obey<F: Shelf>(&mut self, line: &[u8], shelf: &mut F) -> Result<Reply, NoMemory>
+        ensures obeyed { IfOk result (λ reply. Obeyed (λ fetched. spec.Steps self.old line.now fetched reply self.new)
+            (shelf_alone (F.file shelf.old) (F.faults shelf.old)) (shelf_alone (F.file shelf.new) (F.faults shelf.new))) }
+        ensures later { (name : List ℕ) → F.faults shelf.old name ≤ F.faults shelf.new name }
     {
         match read_command(line) {
-            Ok(command) => self.perform(command),
+            Ok(command) => self.perform(command, shelf),
             Err(UnknownLine) => Ok(Reply::Error(Code::UnknownLine)),
         }
     }
 
     /// Does what a command asks for.
-    fn perform(&mut self, command: Command) -> Result<Reply, NoMemory>
+    fn perform<F: Shelf>(&mut self, command: Command, shelf: &mut F) -> Result<Reply, NoMemory>
         requires { IsAskable command }
-        ensures reply { IfOk result (λ reply. reply ≡ spec.reply_to self.old command) }
-        ensures history { IfOk result (λ reply. self.new ≡ spec.history_after self.old command) }
+        ensures obeyed { IfOk result (λ reply. Obeyed (λ fetched. spec.Obeys self.old (Ok command) fetched reply self.new)
+            (shelf_alone (F.file shelf.old) (F.faults shelf.old)) (shelf_alone (F.file shelf.new) (F.faults shelf.new))) }
+        ensures later { (name : List ℕ) → F.faults shelf.old name ≤ F.faults shelf.new name }
     {
         match command {
+            Command::Profiles { file } => {
+                let got = fetch_file(self.alloc, shelf, file.text())?;
+                self.add_profiles(file, got)
+            }
+            Command::Scan {
+                file,
+                zone,
+                threshold,
+                width,
+                sep,
+            } => {
+                let got = fetch_file(self.alloc, shelf, file.text())?;
+                let scan = ScanLine {
+                    file,
+                    zone,
+                    threshold,
+                    width,
+                    sep,
+                };
+                self.add_scan(scan, got)
+            }
             Command::Change(edit) => self.change(edit),
             Command::Undo => self.undo(),
             Command::Redo => self.redo(),
             Command::Report => self.report(),
-            Command::Quit => Ok(Reply::Accepted),
+            Command::Csv => self.csv(),
+            Command::Show => self.show(),
             Command::Free { name } => self.free(name),
+            Command::Products { lo, hi } => self.products(lo, hi),
+            Command::Quit => Ok(Reply::Accepted),
+        }
+    }
+
+    /// Adds the profiles of a file.
+    fn add_profiles(&mut self, name: FileName, file: File) -> Result<Reply, NoMemory>
+        requires { IsSmall (got_of file) }
+        ensures reply { IfOk result (λ reply. reply ≡ (spec.outcome self.old (Command.Profiles name) (got_of file)).reply) }
+        ensures history { IfOk result (λ reply. self.new ≡ (spec.outcome self.old (Command.Profiles name) (got_of file)).history) }
+    {
+        match profiles_in(self.alloc, file) {
+            Ok(list) => self.change(Edit::AddProfiles { list }),
+            Err(fault) => refuse_file(self.alloc, fault),
+        }
+    }
+
+    /// Adds a scan with the hot points of a file.
+    fn add_scan(&mut self, scan: ScanLine, file: File) -> Result<Reply, NoMemory>
+        requires { IsSmall (got_of file) }
+        ensures reply { IfOk result (λ reply. reply ≡ (spec.outcome self.old (scan_command scan) (got_of file)).reply) }
+        ensures history { IfOk result (λ reply. self.new ≡ (spec.outcome self.old (scan_command scan) (got_of file)).history) }
+    {
+        let ScanLine {
+            file: name,
+            zone,
+            threshold,
+            width,
+            sep,
+        } = scan;
+        match hot_in(self.alloc, file, sep, threshold) {
+            Ok(hot) => self.change(Edit::AddScan {
+                file: name,
+                sep,
+                zone,
+                threshold,
+                width,
+                hot,
+            }),
+            Err(fault) => refuse_file(self.alloc, fault),
         }
     }
 
     fn change(&mut self, edit: Edit) -> Result<Reply, NoMemory>
         requires { IsTrue (is_edit edit) }
-        ensures reply { IfOk result (λ reply. reply ≡ spec.reply_to self.old (Command.Change edit)) }
-        ensures history { IfOk result (λ reply. self.new ≡ spec.history_after self.old (Command.Change edit)) }
+        ensures reply { IfOk result (λ reply. reply ≡ (spec.edited self.old edit).reply) }
+        ensures history { IfOk result (λ reply. self.new ≡ (spec.edited self.old edit).history) }
     {
         match self.editor.apply(edit) {
             Ok(()) => Ok(Reply::Accepted),
@@ -82,8 +164,8 @@ impl ShowMachine {
     }
 
     fn undo(&mut self) -> Result<Reply, NoMemory>
-        ensures reply { IfOk result (λ reply. reply ≡ spec.reply_to self.old Command.Undo) }
-        ensures history { IfOk result (λ reply. self.new ≡ spec.history_after self.old Command.Undo) }
+        ensures reply { IfOk result (λ reply. reply ≡ (spec.outcome self.old Command.Undo fault).reply) }
+        ensures history { IfOk result (λ reply. self.new ≡ (spec.outcome self.old Command.Undo fault).history) }
     {
         match self.editor.undo() {
             Ok(()) => Ok(Reply::Accepted),
@@ -93,8 +175,8 @@ impl ShowMachine {
     }
 
     fn redo(&mut self) -> Result<Reply, NoMemory>
-        ensures reply { IfOk result (λ reply. reply ≡ spec.reply_to self.old Command.Redo) }
-        ensures history { IfOk result (λ reply. self.new ≡ spec.history_after self.old Command.Redo) }
+        ensures reply { IfOk result (λ reply. reply ≡ (spec.outcome self.old Command.Redo fault).reply) }
+        ensures history { IfOk result (λ reply. self.new ≡ (spec.outcome self.old Command.Redo fault).history) }
     {
         match self.editor.redo() {
             Ok(()) => Ok(Reply::Accepted),
@@ -105,15 +187,47 @@ impl ShowMachine {
 
     /// The conflicts of the show.
     fn report(&self) -> Result<Reply, NoMemory>
-        ensures { IfOk result (λ reply. reply ≡ spec.reply_to self.now Command.Report) }
+        ensures { IfOk result (λ reply. reply ≡ (spec.outcome self.now Command.Report fault).reply) }
     {
         let text = report_text(self.alloc, self.editor.show(), self.editor.conflicts())?;
         Ok(Reply::Text(Items::from_vec(text)))
     }
 
+    /// The conflicts of the show as rows of comma-separated fields.
+    fn csv(&self) -> Result<Reply, NoMemory>
+        ensures { IfOk result (λ reply. reply ≡ (spec.outcome self.now Command.Csv fault).reply) }
+    {
+        let text = csv_text(self.alloc, self.editor.show(), self.editor.conflicts())?;
+        Ok(Reply::Text(Items::from_vec(text)))
+    }
+
+    /// The lines that make the show.
+    fn show(&self) -> Result<Reply, NoMemory>
+        ensures { IfOk result (λ reply. reply ≡ (spec.outcome self.now Command.Show fault).reply) }
+    {
+        let text = show_text(self.alloc, self.editor.show())?;
+        Ok(Reply::Text(Items::from_vec(text)))
+    }
+
+    /// The intermodulation products from `lo` to `hi`, in kilohertz.
+    fn products(&self, lo: u32, hi: u32) -> Result<Reply, NoMemory>
+        ensures reply { IfOk result (λ reply. reply ≡ (spec.outcome self.now (Command.Products lo hi) fault).reply) }
+        ensures stays { (spec.outcome self.now (Command.Products lo hi) fault).history ≡ self.now }
+    {
+        match (Khz::new(u64::from(lo)), Khz::new(u64::from(hi))) {
+            (Some(low), Some(high)) if lo <= hi => {
+                let products = self.editor.products(low, high)?;
+                let text = products_text(self.alloc, self.editor.show(), &products)?;
+                Ok(Reply::Text(Items::from_vec(text)))
+            }
+            _ => Ok(Reply::Error(Code::Number)),
+        }
+    }
+
     /// The allowed channels of a carrier.
     fn free(&self, name: Name) -> Result<Reply, NoMemory>
-        ensures { IfOk result (λ reply. reply ≡ spec.reply_to self.now (Command.Free name)) }
+        ensures reply { IfOk result (λ reply. reply ≡ (spec.outcome self.now (Command.Free name) fault).reply) }
+        ensures stays { (spec.outcome self.now (Command.Free name) fault).history ≡ self.now }
     {
         let show = self.editor.show();
         match carrier_place(show.carriers(), name) {
@@ -146,7 +260,7 @@ impl Machine for ShowMachine {
         shelf: &mut F,
         output: &mut O,
     ) -> Result<bool, Stop> {
-        let Ok(reply) = self.obey(line) else {
+        let Ok(reply) = self.obey(line, shelf) else {
             return Err(Stop::Memory);
         };
         say(output, &reply)

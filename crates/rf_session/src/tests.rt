@@ -2,7 +2,7 @@
 ghost use Rattle.std.specs.Prelude.{◌<◌};
 
 use crate::run;
-use rf_base::{MemShelf, MemSink, MemSource, Status};
+use rf_base::{FileName, MemShelf, MemSink, MemSource, Status};
 use std::alloc::Global;
 use std::test::Fail;
 
@@ -38,10 +38,25 @@ fn outcome_of(
 ) -> Result<Outcome, Fail>
     requires { 0 < most }
 {
+    let shelf = MemShelf::new(alloc, Vec::new(alloc), Vec::new(alloc));
+    outcome_over(alloc, word, input, most, faults, shelf)
+}
+
+/// The same over the files of a shelf.
+fn outcome_over(
+    alloc: Global,
+    word: &str,
+    input: Vec<u8>,
+    most: usize,
+    faults: Faults,
+    shelf: MemShelf,
+) -> Result<Outcome, Fail>
+    requires { 0 < most }
+{
     let mut words = Vec::new(alloc);
     words.push(String::from_str(alloc, word)?)?;
     let mut source = MemSource::new(input, most, vec![in alloc; faults.read]?);
-    let mut shelf = MemShelf::new(alloc, Vec::new(alloc), Vec::new(alloc));
+    let mut shelf = shelf;
     let Ok(mut sink) = MemSink::new(alloc, 1000, most, vec![in alloc; faults.write]?) else {
         return Err(Fail::from("no memory"));
     };
@@ -59,6 +74,22 @@ fn session(alloc: Global, script: &str) -> Result<Outcome, Fail> {
         1000,
         NO_FAULTS,
     )
+}
+
+/// A session over a script and one file. The shelf fails at its fetch number `fail`; 0 is none.
+fn session_with(
+    alloc: Global,
+    name: &str,
+    bytes: Vec<u8>,
+    fail: u64,
+    script: &str,
+) -> Result<Outcome, Fail> {
+    let name = FileName::read(name.as_bytes()).ok_or("no file name")?;
+    let mut files = Vec::new(alloc);
+    files.push((name, bytes))?;
+    let shelf = MemShelf::new(alloc, files, vec![in alloc; fail]?);
+    let input = script.as_bytes().to_vec(alloc)?;
+    outcome_over(alloc, "session", input, 1000, NO_FAULTS, shelf)
 }
 
 /// A session over a profile P and three carriers of it, 400 kHz apart, and then these lines.
@@ -230,5 +261,183 @@ fn reads_no_more_than_a_script_may_have(rt: HostRuntime) -> Result<(), Fail> {
     let input = vec![in rt.alloc(); b'\n'; 67_108_865]?;
     let outcome = outcome_of(rt.alloc(), "session", input, 100_000, NO_FAULTS)?;
     assert!(rt; outcome.is(Status::Long, ""));
+    Ok(())
+}
+
+/// A profile of two ranges, with a margin.
+const HAND: &[u8] =
+    b"[hand]\nranges = [[470000, 470100, 25], [606500, 606550, 25]]\nspacing = 350\nm2t3 = 100\n";
+
+#[test]
+fn reads_profile_files(rt: HostRuntime) -> Result<(), Fail> {
+    for (bytes, script, status, replies) in [
+        (
+            HAND,
+            "profiles p.toml\ncarrier h hand main\nfree h\nundo\nundo\nprofiles p.toml\nprofiles p.toml\n",
+            Status::Refused,
+            "ok\nok\n470000 470100 5\n606500 606550 3\nchannels 8\nok\nok\nok\nerror E3\n",
+        ),
+        (
+            HAND,
+            "profiles p.toml\ncarrier h hand main\nset h 606525\nreport\nset h 470110\nreport\n",
+            Status::Done,
+            "ok\nok\nok\nconflicts 0\nok\noff-grid h\nconflicts 1\n",
+        ),
+        (b"", "profiles p.toml\nundo\n", Status::Done, "ok\nok\n"),
+        (
+            b"[hand]\nranges = [[1, 2, 1]]\nspacing = 350.0\n",
+            "profiles p.toml\ncarrier h hand main\n",
+            Status::Refused,
+            "error E10 profile 1 spacing\nerror E2\n",
+        ),
+        (
+            b"[hand",
+            "profiles p.toml\nprofiles  p.toml\n",
+            Status::Refused,
+            "error E10 toml\nerror E1\n",
+        ),
+        (
+            HAND,
+            "profiles none.toml\nzone x\n",
+            Status::Refused,
+            "error E11\nok\n",
+        ),
+    ] {
+        let file = bytes.to_vec(rt.alloc())?;
+        let outcome = session_with(rt.alloc(), "p.toml", file, 0, script)?;
+        assert!(rt; outcome.is(status, replies));
+    }
+    Ok(())
+}
+
+/// A profile S of six channels and a carrier of it.
+const SCANNED: &str = "profile S 500010 500015 1 0 0 0 0 0 0\ncarrier a S main\n";
+
+#[test]
+fn reads_scan_files(rt: HostRuntime) -> Result<(), Fail> {
+    let header = b"Frequency (MHz),Level (dBm),Note\n 470.100 , -90.5 ,x\n470.125,-91,\n";
+    let third = b"Frequency (MHz),Level (dBm),Note\n 470.100 , -90.5 ,x\nabc,-80\n";
+    let point = b"500.0125,-80\n";
+    let comma = "scan s.csv main -80 50 comma\n";
+    for (bytes, fail, lines, replies) in [
+        (
+            point.as_slice(),
+            0,
+            "scan s.csv main -80 1 comma\nfree a\nunscan 1\nfree a\n",
+            "ok\n500010 500011 2\n500014 500015 2\nchannels 4\nok\n500010 500015 6\nchannels 6\n",
+        ),
+        (
+            point,
+            0,
+            "scan s.csv main -79.999999999 1 comma\nfree a\n",
+            "ok\n500010 500015 6\nchannels 6\n",
+        ),
+        (
+            point,
+            1,
+            "scan s.csv main -80 1 comma\nzone x\n",
+            "error E11\nok\n",
+        ),
+        (
+            point,
+            0,
+            "scan none.csv nop -80 1 comma\nscan s.csv nop -80 1 comma\nscan s.csv main -200.1 1 comma\nscan s.csv main -80 1 dot\n",
+            "error E11\nerror E2\nerror E4\nerror E1\n",
+        ),
+        (header, 0, comma, "ok\n"),
+        (third, 0, comma, "error E10 record 3 field 1\n"),
+        (
+            b"5e2,-80\n",
+            0,
+            "scan s.csv nop -300 50 comma\n",
+            "error E10 points\n",
+        ),
+        (
+            b"500,-80\n5e2,-80\n",
+            0,
+            comma,
+            "error E10 record 2 field 1\n",
+        ),
+        (b"500\n", 0, comma, "error E10 record 1 field 2\n"),
+        (
+            b"470025;-101\n",
+            0,
+            "scan s.csv main -80 50 semicolon\n",
+            "error E10 record 1 field 1\n",
+        ),
+    ] {
+        let script = format!(in rt.alloc(); "{SCANNED}{lines}")?;
+        let wanted = format!(in rt.alloc(); "ok\nok\n{replies}")?;
+        let file = bytes.to_vec(rt.alloc())?;
+        let outcome = session_with(rt.alloc(), "s.csv", file, fail, script.as_str())?;
+        assert!(rt; outcome.written.as_slice() == wanted.as_bytes());
+    }
+    Ok(())
+}
+
+#[test]
+fn refuses_a_file_that_is_too_large(rt: HostRuntime) -> Result<(), Fail> {
+    for (length, reply) in [
+        (16_777_216, "error E10 toml\n"),
+        (16_777_217, "error E10 large\n"),
+    ] {
+        let file = vec![in rt.alloc(); b'['; length]?;
+        let outcome = session_with(rt.alloc(), "p.toml", file, 0, "profiles p.toml\n")?;
+        assert!(rt; outcome.is(Status::Refused, reply));
+    }
+    Ok(())
+}
+
+#[test]
+fn lists_products(rt: HostRuntime) -> Result<(), Fail> {
+    let lines = "products 500700 500900\nproducts 0 5\nproducts 9 8\nproducts 1 10000001\n";
+    let outcome = three_carriers(rt.alloc(), lines)?;
+    assert!(rt;
+        outcome.is(
+            Status::Refused,
+            "ok\nok\nok\nok\nok\nok\nok\nproduct 500800 2a-b b a\nproduct 500800 2a+b-2c c a b\nproducts 2\nerror E4\nerror E4\nerror E4\n"
+        )
+    );
+    Ok(())
+}
+
+#[test]
+fn bans_channels(rt: HostRuntime) -> Result<(), Fail> {
+    let lines =
+        "ban 500011 500012\nfree a\nset a 500011\nreport\nunban 1\nreport\nunban 1\nban 2 1\nban 1 2 nop\nundo\nreport\n";
+    let script = format!(in rt.alloc(); "{SCANNED}{lines}")?;
+    let outcome = session(rt.alloc(), script.as_str())?;
+    assert!(rt;
+        outcome.is(
+            Status::Refused,
+            "ok\nok\nok\n500010 500010 1\n500013 500015 3\nchannels 4\nok\nbanned a\nconflicts 1\nok\nconflicts 0\nerror E4\nerror E4\nerror E2\nok\nbanned a\nconflicts 1\n"
+        )
+    );
+    Ok(())
+}
+
+#[test]
+fn writes_conflicts_as_rows_and_the_show_as_lines(rt: HostRuntime) -> Result<(), Fail> {
+    let profile = "profile P 500000 510000 25 350 0 100 50 0 0\n";
+    let columns = "kind,source1,source2,source3,victim,product,distance,needs\n";
+    let outcome = three_carriers(rt.alloc(), "csv\n")?;
+    let wanted = format!(in rt.alloc();
+        "ok\nok\nok\nok\nok\nok\nok\ncsv 2\n{columns}2a-b,b,a,,c,500800,0,100\n2a-b,b,c,,a,500000,0,100\n"
+    )?;
+    assert!(rt; outcome.is(Status::Done, wanted.as_str()));
+    let lines = "zone z2\ncarrier d P z2\ncouple z2 main\nban 1 2 z2\ntime a 0 600\nlock a\nshow\n";
+    let outcome = three_carriers(rt.alloc(), lines)?;
+    let wanted = format!(in rt.alloc();
+        "ok\nok\nok\nok\nok\nok\nok\nok\nok\nok\nok\nok\nok\n# show 13\nzone z2\ncouple main z2\n{profile}ban 1 2 z2\ncarrier a P main\ntime a 0 600\nset a 500000\nlock a\ncarrier b P main\nset b 500400\ncarrier c P main\nset c 500800\ncarrier d P z2\n"
+    )?;
+    assert!(rt; outcome.is(Status::Done, wanted.as_str()));
+    let lines =
+        "carrier a,b P main\ncarrier say\"so P main\ncarrier #1 P main\nset a,b 500000\nset say\"so 500100\n";
+    let script = format!(in rt.alloc(); "{profile}{lines}csv\nshow\n")?;
+    let wanted = format!(in rt.alloc();
+        "ok\nok\nok\nok\nok\nok\ncsv 1\n{columns}spacing,\"a,b\",\"say\"\"so\",,,,100,350\n# show 6\n{profile}carrier a,b P main\nset a,b 500000\ncarrier say\"so P main\nset say\"so 500100\ncarrier #1 P main\n"
+    )?;
+    let outcome = session(rt.alloc(), script.as_str())?;
+    assert!(rt; outcome.is(Status::Done, wanted.as_str()));
     Ok(())
 }
