@@ -441,3 +441,118 @@ fn writes_conflicts_as_rows_and_the_show_as_lines(rt: HostRuntime) -> Result<(),
     assert!(rt; outcome.is(Status::Done, wanted.as_str()));
     Ok(())
 }
+
+/// What is replied to a session over these lines after a profile P and three carriers of it, 400 kHz apart.
+fn replies(alloc: Global, lines: &str) -> Result<Outcome, Fail> {
+    let mut outcome = three_carriers(alloc, lines)?;
+    outcome.written = outcome
+        .written
+        .as_slice()
+        .get(21..)
+        .unwrap_or(&[])
+        .to_vec(alloc)?;
+    Ok(outcome)
+}
+
+const EVEN: &str =
+    "2a-b b a hits c at 500800 distance 0 needs 100\n2a-b b c hits a at 500000 distance 0 needs 100\nconflicts 2\n";
+
+#[test]
+fn moves_with_zones_times_and_locks(rt: HostRuntime) -> Result<(), Fail> {
+    let alloc = rt.alloc();
+    for (lines, status, before, even) in [
+        (
+            "zone z2\ncarrier d P z2\ncouple main main\nuncouple main z2\nreport\n",
+            Status::Done,
+            "ok\nok\nok\nok\n",
+            EVEN,
+        ),
+        (
+            "time a 0 10\ntime a 20 30\ntime b 0 20\ntime c 10 30\nreport\nalways a\nreport\n",
+            Status::Done,
+            "ok\nok\nok\nok\nconflicts 0\nok\n",
+            EVEN,
+        ),
+        (
+            "set b 500000\nset c 505000\ntime a 0 10\ntime b 10 20\nreport\ntime b 9 10\nreport\n",
+            Status::Done,
+            "ok\nok\nok\nok\nconflicts 0\nok\nspacing a b distance 0 needs 350\nconflicts 1\n",
+            "",
+        ),
+        (
+            "drop-profile P\nrange P 505000 530000 25\nrange P 520000 530000 25\nunban 1\nunscan 1\nfrobnicate\nzone  x\nset nop 0\n",
+            Status::Refused,
+            "error E5\nerror E4\nerror E5\nerror E4\nerror E4\nerror E1\nerror E1\nerror E2\n",
+            "",
+        ),
+        (
+            "undo\nban 1 2\nredo\nset c 500800\nreport\n",
+            Status::Refused,
+            "ok\nok\nerror E6\nok\n",
+            EVEN,
+        ),
+    ] {
+        let outcome = replies(alloc, lines)?;
+        let wanted = format!(in alloc; "{before}{even}")?;
+        assert!(rt; outcome.is(status, wanted.as_str()));
+    }
+    Ok(())
+}
+
+#[test]
+fn couples_and_uncouples_by_undo(rt: HostRuntime) -> Result<(), Fail> {
+    let alloc = rt.alloc();
+    let made =
+        "zone z2\nprofile P 500000 510000 25 350 0 100 50 0 0\ncarrier a P main\ncarrier b P main\ncarrier c P z2\nset a 500000\nset b 500400\nset c 500800\n";
+    let moved = "report\ncouple main z2\nreport\nundo\nreport\nredo\nreport\nundo\nban 1 2\nredo\n";
+    let script = format!(in alloc; "{made}{moved}")?;
+    let wanted = format!(in alloc;
+        "ok\nok\nok\nok\nok\nok\nok\nok\nconflicts 0\nok\n{EVEN}ok\nconflicts 0\nok\n{EVEN}ok\nok\nerror E6\n"
+    )?;
+    let outcome = session(alloc, script.as_str())?;
+    assert!(rt; outcome.is(Status::Refused, wanted.as_str()));
+    Ok(())
+}
+
+#[test]
+fn reports_products_of_three_and_of_order_five(rt: HostRuntime) -> Result<(), Fail> {
+    let alloc = rt.alloc();
+    for (profile, carriers, wanted) in [
+        (
+            "profile P 500000 510000 25 350 0 100 50 0 0\n",
+            "carrier w P main\ncarrier x P main\ncarrier y P main\ncarrier z P main\nset w 500000\nset x 501000\nset y 503000\nset z 504000\nreport\n",
+            "ok\nok\nok\nok\nok\nok\nok\nok\nok\na+b-c w z x hits y at 503000 distance 0 needs 50\na+b-c w z y hits x at 501000 distance 0 needs 50\na+b-c x y w hits z at 504000 distance 0 needs 50\na+b-c x y z hits w at 500000 distance 0 needs 50\nconflicts 4\n",
+        ),
+        (
+            "profile P 500000 510000 25 350 0 100 50 100 0\n",
+            "carrier a P main\ncarrier b P main\ncarrier c P main\nset a 500000\nset b 500400\nset c 501200\nreport\n",
+            "ok\nok\nok\nok\nok\nok\nok\n3a-2b b a hits c at 501200 distance 0 needs 100\nconflicts 1\n",
+        ),
+        (
+            "profile P 500000 510000 25 350 0 100 50 0 0\n",
+            "carrier a P main\ncarrier b P main\ncarrier c P main\nset a 500000\nset b 500400\nset c 501200\nreport\n",
+            "ok\nok\nok\nok\nok\nok\nok\nconflicts 0\n",
+        ),
+    ] {
+        let script = format!(in alloc; "{profile}{carriers}")?;
+        let outcome = session(alloc, script.as_str())?;
+        assert!(rt; outcome.is(Status::Done, wanted));
+    }
+    Ok(())
+}
+
+#[test]
+fn takes_sixty_four_carriers(rt: HostRuntime) -> Result<(), Fail> {
+    let alloc = rt.alloc();
+    let mut script = String::from_str(alloc, "profile P 500000 510000 25 350 0 100 50 0 0\n")?;
+    let mut wanted = String::from_str(alloc, "ok\n")?;
+    for number in 1..65 {
+        write!(script, "carrier c{number} P main\n")?;
+        wanted.push_str("ok\n")?;
+    }
+    script.push_str("carrier c65 P main\nremove c1\ncarrier c65 P main\n")?;
+    wanted.push_str("error E9\nok\nok\n")?;
+    let outcome = session(alloc, script.as_str())?;
+    assert!(rt; outcome.is(Status::Refused, wanted.as_str()));
+    Ok(())
+}
