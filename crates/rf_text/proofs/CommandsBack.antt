@@ -95,7 +95,7 @@ edit_back (edit.AddScan _ _ _ _ _ _) h = absurd h
 edit_back (edit.Unscan number) h = let n = number_back number h in record { read = rw n.read refl; valid = rw n.valid refl }
 edit_back (edit.Place at) h = absurd h
 
-said_back : (command : Command) → IsSaid command → IsBack command
+pub said_back : (command : Command) → IsSaid command → IsBack command
 unfolding verb_of command_by
 said_back (Change e) h = edit_back e h
 said_back (Profiles file) h = let f = file_back file h in record { read = rw f.read refl; valid = rw f.valid refl }

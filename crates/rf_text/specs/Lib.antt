@@ -9,6 +9,7 @@ pub mod Lines
 pub mod Operands
 pub mod Reports
 pub mod Separators
+pub mod ShowLaw
 pub mod Shows
 pub mod Verbs
 pub mod Words

@@ -13,6 +13,7 @@ mod operand;
 mod product_report;
 mod report;
 mod separator;
+mod show_law;
 mod show_lines;
 mod verb;
 mod words;
@@ -23,6 +24,7 @@ pub use csv_report::csv_text;
 pub use free::free_text;
 pub use product_report::products_text;
 pub use report::report_text;
+pub use show_law::lines_make_show;
 pub use show_lines::show_text;
 pub use writing::command_text;
 
