@@ -1,0 +1,4 @@
+pub mod Boxes
+pub mod Lines
+pub mod Ranges
+pub mod Carriers
