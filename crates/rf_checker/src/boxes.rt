@@ -52,11 +52,7 @@ fn set_of(alloc: Global, count: u32, c: u32, conds: &[Cond]) -> Result<Spans, No
 }
 
 /// For each carrier, all its indices that meet every condition on it.
-pub(crate) fn box_of(
-    alloc: Global,
-    show: &Show,
-    conds: &[Cond],
-) -> Result<Vec<Spans>, NoMemory>
+pub(crate) fn box_of(alloc: Global, show: &Show, conds: &[Cond]) -> Result<Vec<Spans>, NoMemory>
     requires { All (λ cond. Fits (case_of show.now) cond) conds.now }
     ensures same { IfOk result (λ sets. box_in sets.items ≡ box.box_of (case_of show.now) conds.now) }
     ensures box_for { IfOk result (λ sets. IsBoxFor (case_of show.now) sets.items) }

@@ -59,12 +59,7 @@ pub(crate) fn lines_with(
     Ok(all)
 }
 
-fn line_with(
-    alloc: Global,
-    places: &[u32],
-    other: u32,
-    line: &LogLine,
-) -> Result<LogLine, NoMemory>
+fn line_with(alloc: Global, places: &[u32], other: u32, line: &LogLine) -> Result<LogLine, NoMemory>
     ensures { IfOk result (λ new. new ≡ spec.line_with (spec.place_at places.now other) line.now) }
 {
     match line {
@@ -82,12 +77,7 @@ fn line_with(
     }
 }
 
-fn conds_with(
-    alloc: Global,
-    places: &[u32],
-    other: u32,
-    conds: &[Cond],
-) -> Result<Conds, NoMemory>
+fn conds_with(alloc: Global, places: &[u32], other: u32, conds: &[Cond]) -> Result<Conds, NoMemory>
     ensures { IfOk result (λ all. all ≡ map (spec.cond_with (spec.place_at places.now other)) conds.now) }
 {
     let mut all = Conds::new(alloc);

@@ -12,3 +12,6 @@ mod rule;
 mod walk;
 
 pub use walk::check;
+
+#[cfg(test)]
+mod tests;

@@ -62,7 +62,16 @@ fn apply_hint(
             let places = places(roles);
             let carriers = &places[..roles_of(*kind)];
             let place = *target as usize;
-            apply_rule(show, sets, *kind, carriers, place, carriers[place], *lo, *hi)
+            apply_rule(
+                show,
+                sets,
+                *kind,
+                carriers,
+                place,
+                carriers[place],
+                *lo,
+                *hi,
+            )
         }
     }
 }

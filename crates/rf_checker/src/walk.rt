@@ -118,12 +118,7 @@ fn cause(
 }
 
 // Whether each condition holds throughout the box of the path.
-fn follows(
-    alloc: Global,
-    show: &Show,
-    path: &[Cond],
-    conds: &[Cond],
-) -> Result<bool, NoMemory>
+fn follows(alloc: Global, show: &Show, path: &[Cond], conds: &[Cond]) -> Result<bool, NoMemory>
     requires path { All (Fits (case_of show.now)) path.now }
     requires conds { All (Fits (case_of show.now)) conds.now }
     ensures { IfOk result (λ holds. holds ≡ list_all (box.holds_throughout (case_of show.now) (box.box_of (case_of show.now) (reverse path.now))) conds.now) }
