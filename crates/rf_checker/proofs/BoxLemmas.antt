@@ -1,21 +1,19 @@
 -- What lists of sets tell of the boxes that they stand for.
-use Rattle.std.proofs.Common.{◌≡◌, ℕ, zero, suc, ◌+◌, ◌<◌, ◌≤◌, ◌==◌, List, [], ◌∷◌, ◌++◌, length, Bool, true, false, not, ◌&&◌, ◌||◌, refl, sym, ◌∙◌, ap, subst, arith, ◌⊎◌, inl, inr, map, take, IsTrue, get_or}
-use Rattle.std.specs.Prelude.{if◌then◌else◌, nat_lt, slice_index_or, ◌↔◌}
+use Rattle.std.proofs.Common.{◌≡◌, ℕ, ◌+◌, ◌<◌, ◌≤◌, List, [], length, Bool, true, false, not, ◌&&◌, ◌||◌, sym, ◌∙◌, ap, subst, inl, inr, IsTrue, get_or}
+use Rattle.std.specs.Prelude.{nat_lt, slice_index_or, ◌↔◌}
 use Rattle.std.specs.Bool.{Decides}
-use Rattle.std.specs.List.{All, list_all}
 use Rattle.std.proofs.lemmas.List.{get_or_default}
 use Rattle.std.proofs.Common.{add-one}
-use Rattle.std.proofs.lemmas.Bool.{cases_Bool, leb-true, le-leb, lt-ltb, or_right, and_right, and_parts, and_from, not-true, not_from_false, ltb-true, le-ltb, and_left, true≢false}
+use Rattle.std.proofs.lemmas.Bool.{cases_Bool, leb-true, le-leb, and_right, and_parts, and_from, not-true, not_from_false, ltb-true, and_left, true≢false}
 use Rattle.std.proofs.lemmas.Bool.Decides.{same_from_decides}
-use mathlib.Core.Path.{fun_ext}
 use Rattle.rf_exclusions.specs.declared.span.Span.{Span}
 use Rattle.rf_exclusions.specs.Spans.{has_in, IsWithin, Misses, IsEmptySet, between}
 use Rattle.rf_log.specs.declared.cond.Cond.{Cond}
 use Rattle.rf_log.specs.Case.{Case, count_of, is_allowed}
-use Rattle.rf_log.specs.Box.{Box, each_below, is_met, is_met_by, holds_throughout, has_none, box_of, is_dead, without}
+use Rattle.rf_log.specs.Box.{Box, each_below, is_met, holds_throughout, has_none, is_dead}
 use Rattle.rf_log.specs.Hints.{is_barred}
 use Rattle.rf_checker.proofs.TestLemmas.{each_below-at, each_below-from, implied, implies}
-use Rattle.rf_checker.specs.Boxes.{box_in, IsBelow, IsBoxFor, Fits}
+use Rattle.rf_checker.specs.Boxes.{box_in, IsBelow, IsBoxFor}
 
 pub each_below-decides : (n : ℕ) (p : ℕ → Bool) → Decides (each_below n p) ((k : ℕ) → k < n → p k ≡ true)
 each_below-decides n p = (λ e k low. each_below-at n p k e low, each_below-from n p)

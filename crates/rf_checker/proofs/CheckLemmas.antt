@@ -1,5 +1,5 @@
 -- One line more of the walk, and what it leaves true of the lines and the path.
-use Rattle.std.proofs.Common.{◌≡◌, ℕ, zero, suc, ◌+◌, ◌<◌, ◌≤◌, List, [], ◌∷◌, ◌++◌, length, Bool, true, false, not, refl, sym, ◌∙◌, ap, subst, arith, ◌⊎◌, inl, inr, take, drop, drop-cons, get_or, reverse}
+use Rattle.std.proofs.Common.{◌≡◌, ℕ, zero, suc, ◌+◌, ◌<◌, List, [], ◌∷◌, ◌++◌, length, Bool, true, false, not, refl, sym, ◌∙◌, ap, subst, arith, ◌⊎◌, inl, inr, take, drop, drop-cons, get_or, reverse}
 use Rattle.std.specs.Prelude.{Option, Some, None, if◌then◌else◌}
 use Rattle.std.specs.List.{All, list_all}
 use Rattle.std.proofs.lemmas.Bool.{cases_Bool, and_parts, ltb-true, leb-true}
@@ -15,7 +15,7 @@ use Rattle.rf_log.specs.declared.verdict.Verdict.{Verdict}
 use Rattle.rf_log.specs.declared.verdict.Verdict.TheVariants as verdict
 use Rattle.rf_log.specs.Case.{Case, carrier_of}
 use Rattle.rf_log.specs.Hints.{conds_in, nogood_at}
-use Rattle.rf_log.specs.Walk.{Tree, walk, verdict_of, cause_of, tree_after, grown, turned, left_side, right_side, knows_names, knows_cond, fits_indices, fits_cond, finds_lines, hints_work, ends_empty, follows_path, unless}
+use Rattle.rf_log.specs.Walk.{Tree, walk, cause_of, tree_after, turned, left_side, right_side, knows_names, knows_cond, fits_indices, fits_cond, unless}
 use Rattle.rf_checker.specs.Boxes.{Fits}
 use Rattle.rf_checker.specs.Lines.{LinesFit, TreeFits}
 

@@ -1,10 +1,10 @@
 -- The one index of a carrier, and what a rule hint asks.
-use Rattle.std.proofs.Common.{◌≡◌, ℕ, zero, suc, ◌+◌, ◌<◌, ◌≤◌, ◌==◌, List, [], ◌∷◌, length, Bool, true, false, not, ◌&&◌, ◌||◌, refl, sym, ◌∙◌, ap, subst, arith, ◌⊎◌, inl, inr, map, take, set, get_or, ◌++◌, add-one}
+use Rattle.std.proofs.Common.{◌≡◌, ℕ, zero, suc, ◌+◌, ◌<◌, ◌≤◌, ◌==◌, List, [], ◌∷◌, length, Bool, true, false, not, ◌&&◌, ◌||◌, refl, sym, ◌∙◌, ap, subst, arith, inl, inr, map, take, set, get_or, ◌++◌, add-one}
 use Rattle.std.proofs.lemmas.List.{take_more, map-append}
 use Rattle.std.proofs.Math.Seq.{take-suc-set, take-set-lt}
-use Rattle.std.specs.Prelude.{is_some, Option, Some, None, MatchOption, if◌then◌else◌, nat_lt, slice_index, slice_index_or}
+use Rattle.std.specs.Prelude.{is_some, Option, Some, None, MatchOption, nat_lt, slice_index, slice_index_or}
 use Rattle.std.specs.List.{All, list_all}
-use Rattle.std.proofs.lemmas.Bool.{cases_Bool, cases_lt, and_parts, and_from, and_left, or_right, or_left, not-true, not_from_false, lt-ltb, leb-true, true≢false, false_from_ne_true, eq-eqb, and_right, or_parts, or_from, not_from_true, le-leb, eqb-true}
+use Rattle.std.proofs.lemmas.Bool.{cases_Bool, cases_lt, and_parts, and_from, or_right, or_left, not-true, not_from_false, lt-ltb, leb-true, true≢false, false_from_ne_true, eq-eqb, and_right, or_parts, or_from, not_from_true, le-leb, eqb-true}
 use Rattle.rf_exclusions.specs.declared.span.Span.{Span}
 use Rattle.rf_exclusions.specs.Spans.{has_in, IsOnly}
 use Rattle.rf_log.specs.Case.{Case, count_of, is_instance, are_distinct, are_together, is_among, is_broken, is_in_order, breaks, freq_of, freqs_at, margin_of}
@@ -13,7 +13,7 @@ use Rattle.rf_terms.specs.declared.kind.Kind.{Kind}
 use Rattle.rf_terms.specs.Kinds.{roles_of}
 use Rattle.rf_log.specs.Hints.{is_ruled_out, indices_with}
 use Rattle.rf_checker.proofs.BoxLemmas.{each_fails}
-use Rattle.rf_checker.proofs.TestLemmas.{each_below-at, each_below-from, only_below-is, some_when}
+use Rattle.rf_checker.proofs.TestLemmas.{each_below-from, only_below-is, some_when}
 use Rattle.rf_checker.specs.Boxes.{box_in, IsBelow, IsBoxFor}
 use Rattle.rf_checker.specs.Ranges.{IsEach}
 

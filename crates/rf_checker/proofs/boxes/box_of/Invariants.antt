@@ -1,4 +1,4 @@
-use Rattle.std.proofs.Common.{◌≡◌, ℕ, ◌<◌, length, vec_len}
+use Rattle.std.proofs.Common.{◌≡◌, ℕ, ◌<◌, length}
 use Rattle.rf_log.specs.Box.{box_of}
 use Rattle.rf_show.specs.Case.{case_of}
 use Rattle.rf_checker.specs.Boxes.{box_in}

@@ -1,4 +1,4 @@
-use Rattle.std.proofs.Common.{◌∙◌, sym, ap, not, arith, length, ◌<◌}
+use Rattle.std.proofs.Common.{◌∙◌, sym, ap, not, arith}
 use Rattle.rf_log.specs.Box.{has_none}
 use Rattle.rf_show.specs.Case.{case_of}
 use Rattle.rf_checker.specs.Boxes.{box_in}

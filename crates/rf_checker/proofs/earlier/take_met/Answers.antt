@@ -1,4 +1,4 @@
-use Rattle.std.proofs.Common.{◌≡◌, ◌∙◌, sym, ap, arith, ◌<◌, length}
+use Rattle.std.proofs.Common.{arith, ◌<◌, length}
 use Rattle.std.proofs.lemmas.Result.{on_ok_weaker}
 use Rattle.rf_show.specs.Case.{case_of}
 use Rattle.rf_checker.proofs.EarlierLemmas.{below_at, met_gone}

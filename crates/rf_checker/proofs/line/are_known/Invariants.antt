@@ -1,10 +1,7 @@
 use Rattle.std.proofs.Common.{◌≡◌, take, true, length}
 use Rattle.std.specs.Prelude.{nat_lt}
 use Rattle.std.specs.List.{list_all}
-use Rattle.rf_log.specs.Walk as walk
-use Rattle.rf_log.specs.Box as box
 use Rattle.rf_show.specs.Case.{case_of}
-use Rattle.rf_checker.specs.Boxes.{box_in}
 use Rattle.rf_checker.proofs.line.are_known.Given as goal
 
 abbrev pub invariant-loop-role : goal.invariant-loop-role

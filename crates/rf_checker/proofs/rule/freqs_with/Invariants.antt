@@ -1,5 +1,4 @@
-use Rattle.std.proofs.Common.{◌≡◌, ◌≤◌, take, map, length}
-use Rattle.std.specs.List.{All}
+use Rattle.std.proofs.Common.{◌≡◌, take, map, length}
 use Rattle.rf_terms.specs.Forms.{AreFrequencies}
 use Rattle.rf_log.specs.Case as case
 use Rattle.rf_log.specs.Hints as hints

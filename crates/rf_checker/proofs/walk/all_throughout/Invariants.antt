@@ -1,7 +1,5 @@
-use Rattle.std.proofs.Common.{◌≡◌, take, true, length}
-use Rattle.std.specs.Prelude.{nat_lt}
+use Rattle.std.proofs.Common.{◌≡◌, take, true}
 use Rattle.std.specs.List.{list_all}
-use Rattle.rf_log.specs.Walk as walk
 use Rattle.rf_log.specs.Box as box
 use Rattle.rf_show.specs.Case.{case_of}
 use Rattle.rf_checker.specs.Boxes.{box_in}

@@ -1,9 +1,8 @@
-use Rattle.std.proofs.Common.{◌≡◌, ◌≤◌, take, drop, reverse, vec_len}
+use Rattle.std.proofs.Common.{◌≡◌, ◌≤◌, take, drop, reverse}
 use Rattle.std.specs.Prelude.{Some, None, if◌then◌else◌}
-use Rattle.std.specs.List.{All, count_by}
+use Rattle.std.specs.List.{count_by}
 use Rattle.rf_log.specs.Walk.{walk, verdict_of, is_branch}
 use Rattle.rf_show.specs.Case.{case_of}
-use Rattle.rf_checker.specs.Boxes.{Fits}
 use Rattle.rf_checker.specs.Lines.{LinesFit, TreeFits}
 use Rattle.rf_checker.proofs.walk.walk_lines.Given as goal
 
