@@ -1,0 +1,12 @@
+pub mod CountLemmas
+pub mod TheoryLemmas
+pub mod RangeLemmas
+pub mod InstanceLemmas
+pub mod InsertLemmas
+pub mod RoleLemmas
+pub mod StrikeLemmas
+pub mod SingleLemmas
+pub mod SweepLemmas
+pub mod SettleLemmas
+pub mod BanLemmas
+pub mod KindLemmas

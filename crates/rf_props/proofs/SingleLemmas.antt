@@ -1,0 +1,101 @@
+-- Carriers with one index.
+use Rattle.std.proofs.Common.{◌≡◌, ◌∙◌, ℕ, zero, suc, ◌+◌, ◌<◌, ◌≤◌, Bool, true, false, not, List, [], ◌∷◌, ◌++◌, length, map, take, get_or, set, refl, sym, ap, subst, inl, inr, arith}
+use Rattle.std.specs.Prelude.{Option, Some, None, is_some, if◌then◌else◌}
+use Rattle.std.specs.Option.{unwrap_or}
+use Rattle.std.proofs.Math.ListN.{length-set}
+use Rattle.std.proofs.lemmas.Bool.{cases_Bool, cases_lt, and_from, true≢false}
+use Rattle.std.proofs.lemmas.List.{take_more, take_more_set, map-append}
+use Rattle.std.proofs.lemmas.List.Folds.{list_all_more, list_all_at}
+use Rattle.std.proofs.lemmas.List.Elements.{All-push}
+use Rattle.rf_terms.specs.Forms.{AreFrequencies}
+use Rattle.rf_log.specs.Case.{Case, count_of, counts_of, freq_of}
+use Rattle.rf_log.specs.Box.{Box, each_below, only_below, only_index}
+use Rattle.rf_log.proofs.Kept.{each_below-from, only_below-is}
+use Rattle.rf_domain.specs.Indices.{IsOnly}
+use Rattle.rf_domain.specs.Sets.{has}
+use Rattle.rf_trail.specs.Trace.{Trace}
+use Rattle.rf_props.specs.Sweeps.{left, sole_freq, IsSingle, HasMany, AreSingle, HaveMany}
+use Rattle.rf_props.proofs.StrikeLemmas.{sized_left}
+
+pub only_below-some : (n : ℕ) (p : ℕ → Bool) (k : ℕ) → k < n → p k ≡ true → ((j : ℕ) → p j ≡ true → j ≡ k) → only_below n p ≡ Some k
+only_below-some zero p k low here alone = absurd (omega arith)
+only_below-some (suc n) p k low here alone =
+    elim (cases_Bool (p n)) [
+      | inl e ↦
+          let is : n ≡ k = alone n e in
+          let none : each_below n (λ j. not (p j)) ≡ true = each_below-from n (λ j. not (p j)) (λ j under. off j (omega arith)) in
+          rw (e, none) (ap (λ x. Some x) is)
+      | inr e ↦
+          let under : k < n = elim (cases_lt k n) [ inl less ↦ less | inr over ↦ absurd (true≢false (sym here ∙ ap p (last k over low) ∙ e)) ] in
+          rw e (only_below-some n p k under here alone)
+    ]
+  where
+    off : (j : ℕ) → (j ≡ k → ⊥) → not (p j) ≡ true
+    off j other = elim (cases_Bool (p j)) [ inl on ↦ absurd (other (alone j on)) | inr out ↦ rw out ]
+
+    last : (k : ℕ) → n ≤ k → k < suc n → k ≡ n
+    last k over low = omega arith
+
+only_below-here : (n : ℕ) (p : ℕ → Bool) (k : ℕ) → only_below n p ≡ Some k → (k < n) × (p k ≡ true)
+only_below-here zero p k only = cc
+only_below-here (suc n) p k only =
+    elim (cases_Bool (p n)) [
+      | inl e ↦ at_last e (each_below n (λ j. not (p j))) (rw e at only)
+      | inr e ↦ let rest = only_below-here n p k (rw e at only) in (omega (arith, rest.0), rest.1)
+    ]
+  where
+    at_last : p n ≡ true → (b : Bool) → (if b then Some n else None) ≡ Some k → (k < suc n) × (p k ≡ true)
+    at_last e true is = let same : n ≡ k = cc in (omega arith, ap p (sym same) ∙ e)
+    at_last e false is = cc
+
+-- the one index of a set, in the words of a case
+pub single_of : (case : Case) (t : Trace) (sets : List (List Bool)) (c k : ℕ) → t.counts ≡ counts_of case → has sets ≡ left t → IsOnly (get_or sets c []) k
+    → (only_index case (left t) c ≡ Some k) × (k < count_of case c)
+single_of case t sets c k counts is only =
+    let here : left t c k ≡ true = sym (ap (λ f. f c k) is) ∙ only.here in
+    let low : k < count_of case c = sized_left case t counts c k here in
+    (only_below-some (count_of case c) (left t c) k low here (λ j on. only.alone j (ap (λ f. f c j) is ∙ on)), low)
+
+pub many_of : (case : Case) (t : Trace) (sets : List (List Bool)) (c : ℕ) → t.counts ≡ counts_of case → has sets ≡ left t → ((k : ℕ) → IsOnly (get_or sets c []) k → ⊥)
+    → HasMany case (left t) c
+many_of case t sets c counts is none = record { many = by (only_index case (left t) c) refl }
+  where
+    by : (o : Option ℕ) → only_index case (left t) c ≡ o → is_some (only_index case (left t) c) ≡ false
+    by None e = ap is_some e
+    by (Some k) e =
+        let here = only_below-here (count_of case c) (left t c) k e in
+        absurd (none k (record {
+          here = ap (λ f. f c k) is ∙ here.1;
+          alone = λ j on. only_below-is (count_of case c) (left t c) k j e (sized_left case t counts c j (sym (ap (λ f. f c j) is) ∙ on)) (sym (ap (λ f. f c j) is) ∙ on);
+        }))
+
+pub single_is : (case : Case) (has : Box) (c k f : ℕ) → only_index case has c ≡ Some k → f ≡ freq_of case c k → f ≤ 10000000 → IsSingle case has c f
+single_is case has c k f only is small = record {
+  sole = ap is_some only;
+  freq = is ∙ sym (ap (λ o. freq_of case c (unwrap_or o 0)) only);
+  small = small;
+}
+
+-- the first so many carriers, with their frequencies in an array
+pub record SinglesUpTo (case : Case) (has : Box) (others : List ℕ) (n : ℕ) (all : List ℕ) : Type 0 where
+  pub size : length all ≡ 4
+  pub single : AreSingle case has (take n others) (take n all)
+
+pub singles_more : (case : Case) (has : Box) (others : List ℕ) (n f : ℕ) (all : List ℕ) → SinglesUpTo case has others n all → n < length others → n < 4 → IsSingle case has (get_or others n 0) f
+    → SinglesUpTo case has others (n + 1) (set all n f)
+singles_more case has others n f all so known room one =
+    let front : take (n + 1) others ≡ take n others ++ get_or others n 0 ∷ [] = take_more others n 0 known in
+    let freqs : take (n + 1) (set all n f) ≡ take n all ++ f ∷ [] = take_more_set all n f (omega (arith, so.size)) in record {
+      size = length-set all n f ∙ so.size;
+      single = record {
+        fixed = record {
+          sole = list_all_more (λ c. is_some (only_index case has c)) others n 0 known ∙ and_from _ _ so.single.fixed.sole one.sole;
+          known = freqs ∙ ap (λ xs. xs ++ f ∷ []) so.single.fixed.known ∙ ap (λ x. map (sole_freq case has) (take n others) ++ x ∷ []) one.freq
+              ∙ sym (map-append (sole_freq case has) (take n others) (get_or others n 0 ∷ [])) ∙ sym (ap (map (sole_freq case has)) front);
+        };
+        small = subst AreFrequencies (sym freqs) (All-push (λ x. x ≤ 10000000) (take n all) f so.single.small one.small);
+      };
+    }
+
+pub singles_none : (case : Case) (has : Box) (others : List ℕ) (n : ℕ) → n < length others → HasMany case has (get_or others n 0) → HaveMany case has others
+singles_none case has others n known one = record { many = list_all_at (λ c. is_some (only_index case has c)) others n 0 known one.many }

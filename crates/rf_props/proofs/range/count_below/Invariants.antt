@@ -1,0 +1,9 @@
+use Rattle.std.proofs.Common.{◌-◌}
+use Rattle.rf_props.proofs.RangeLemmas.{IsBetween}
+use Rattle.rf_props.proofs.range.count_below.Given as goal
+
+abbrev pub invariant-loop-from : goal.invariant-loop-from
+invariant-loop-from l = IsBetween l.freqs l.number l.from l.upto
+
+abbrev pub decreases-loop-from : goal.decreases-loop-from
+decreases-loop-from l = l.upto - l.from

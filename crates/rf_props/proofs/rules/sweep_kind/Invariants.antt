@@ -1,0 +1,6 @@
+use Rattle.rf_problem.specs.Problem.{case_of}
+use Rattle.rf_props.proofs.SettleLemmas.{PlacesDone}
+use Rattle.rf_props.proofs.rules.sweep_kind.Given as goal
+
+abbrev pub invariant-loop-place : goal.invariant-loop-place
+invariant-loop-place l = PlacesDone (case_of l.problem) l.kind l.initial.trail l.trail l.place

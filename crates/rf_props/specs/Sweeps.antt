@@ -1,0 +1,81 @@
+-- What a sweep over the instances of a kind leaves.
+use Rattle.std.specs.Prelude.{◌≡◌, ℕ, ◌+◌, ◌<◌, ◌≤◌, pos, List, ◌++◌, true, false, insert, length, map, is_some, [], Contains}
+use Rattle.std.specs.List.{list_all}
+use Rattle.std.specs.Option.{unwrap_or}
+use Rattle.rf_terms.specs.declared.kind.Kind.{Kind}
+use Rattle.rf_terms.specs.Kinds.{roles_of}
+use Rattle.rf_terms.specs.Forms.{AreFrequencies}
+use Rattle.rf_terms.specs.Windows.{Breaks}
+use Rattle.rf_log.specs.Case.{Case, count_of, freq_of, margin_of, is_among}
+use Rattle.rf_log.specs.Box.{Box, between, only_index}
+use Rattle.rf_log.specs.Hints.{is_ruled_out}
+use Rattle.rf_trail.specs.Trace.{Trace, has_of}
+
+-- the indices that are left, as a test
+abbrev pub left : Trace → Box
+left t = has_of t.counts t.entries
+
+-- the frequency of a carrier's one index
+abbrev pub sole_freq : Case → Box → ℕ → ℕ
+sole_freq case has c = freq_of case c (unwrap_or (only_index case has c) 0)
+
+-- each of these carriers has one index, and these are their frequencies
+pub record AreFixed (case : Case) (has : Box) (others freqs : List ℕ) : Type 0 where
+  pub sole : list_all (λ c. is_some (only_index case has c)) others ≡ true
+  pub known : freqs ≡ map (sole_freq case has) others
+
+-- no index that is left to the target breaks the instance
+pub record IsClear (case : Case) (has : Box) (kind : Kind) (roles : List ℕ) (target : ℕ) : Type 0 where
+  pub each : (k : ℕ) → has target k ≡ true → is_ruled_out case has kind roles target k k ≡ false
+
+-- no carrier has an index left that breaks an instance in which it has this role beside these others and further ones
+pub record IsSwept (case : Case) (has : Box) (kind : Kind) (place : ℕ) (first : List ℕ) : Type 0 where
+  pub each : (rest : List ℕ) (c : ℕ) → length (first ++ rest) + 1 ≡ roles_of kind → IsClear case has kind (insert (first ++ rest) place c) c
+
+-- no carrier has an index left that breaks an instance of the kind, in any role
+pub record IsKindDone (case : Case) (has : Box) (kind : Kind) : Type 0 where
+  pub each : (place : ℕ) → place < roles_of kind → IsSwept case has kind place []
+
+pub record AreKindsDone (case : Case) (has : Box) (kinds : List Kind) : Type 0 where
+  pub each : (kind : Kind) → Contains kinds kind → IsKindDone case has kind
+
+-- the same indices are left
+pub record IsUnmoved (old new : Trace) : Type 0 where
+  pub same : left new ≡ left old
+
+-- the same indices are left to these carriers
+pub record KeepsRows (others : List ℕ) (old new : Trace) : Type 0 where
+  pub each : (o : ℕ) → is_among others o ≡ true → left new o ≡ left old o
+
+-- no index of the target breaks the kind with these frequencies in the other roles
+pub record IsHarmless (case : Case) (kind : Kind) (place : ℕ) (roles freqs : List ℕ) (target : ℕ) : Type 0 where
+  pub none : (k : ℕ) → k < count_of case target → ¬ Breaks kind place freqs (margin_of case kind roles) (pos (freq_of case target k))
+
+-- just the indices from first to last of the target do
+pub record AreBroken (case : Case) (kind : Kind) (place : ℕ) (roles freqs : List ℕ) (target first last : ℕ) : Type 0 where
+  pub ordered : first ≤ last
+  pub known : last < count_of case target
+  pub inside : (k : ℕ) → between first last k ≡ true → Breaks kind place freqs (margin_of case kind roles) (pos (freq_of case target k))
+  pub all : (k : ℕ) → k < count_of case target → Breaks kind place freqs (margin_of case kind roles) (pos (freq_of case target k)) → between first last k ≡ true
+
+-- the frequency of the carrier's one index
+pub record IsSingle (case : Case) (has : Box) (c f : ℕ) : Type 0 where
+  pub sole : is_some (only_index case has c) ≡ true
+  pub freq : f ≡ sole_freq case has c
+  pub small : f ≤ 10000000
+
+-- the carrier has not exactly one index
+pub record HasMany (case : Case) (has : Box) (c : ℕ) : Type 0 where
+  pub many : is_some (only_index case has c) ≡ false
+
+pub record AreSingle (case : Case) (has : Box) (others freqs : List ℕ) : Type 0 where
+  pub fixed : AreFixed case has others freqs
+  pub small : AreFrequencies freqs
+
+-- one of the carriers has not exactly one index
+pub record HaveMany (case : Case) (has : Box) (others : List ℕ) : Type 0 where
+  pub many : list_all (λ c. is_some (only_index case has c)) others ≡ false
+
+-- where the same indices are left
+pub record WhenUnmoved (old new : Trace) (P : Type 0) : Type 0 where
+  pub holds : IsUnmoved old new → P

@@ -1,0 +1,53 @@
+ghost use Rattle.std.specs.Prelude.{◌≡◌, ℕ, List, Ok};
+ghost use Rattle.rf_log.specs.Case.{counts_of};
+ghost use Rattle.rf_log.specs.Hints.{Line};
+ghost use Rattle.rf_log.specs.Relations.{IsEmptied};
+ghost use Rattle.rf_log.specs.declared.cond.Cond.{Cond};
+ghost use Rattle.rf_problem.specs.Problem.{case_of};
+ghost use Rattle.rf_trail.specs.Trace.{box_of};
+ghost use Rattle.rf_propagate.specs.Laws.{Extends, IsOnPath, IsClosed};
+
+use crate::bans::Bans;
+use crate::spacing::Spacing;
+use crate::theory::ProblemTheory;
+use crate::three_source::ThreeSource;
+use crate::two_source::TwoSource;
+use rf_base::NoMemory;
+use rf_propagate::{Both, Engine, Outcome};
+use rf_trail::Trail;
+
+/// Every propagator of the rules: what is not allowed, and each kind of the rule table.
+pub type Rules = Both<Bans, Both<Spacing, Both<TwoSource, ThreeSource>>>;
+
+/// The engine of every propagator over a theory.
+pub fn engine_of<'a>(theory: ProblemTheory<'a>) -> Engine<ProblemTheory<'a>, Rules>
+    ensures { result.theory ≡ theory.entry }
+{
+    let rules = Both {
+        first: Bans::new(),
+        second: Both {
+            first: Spacing::new(),
+            second: Both {
+                first: TwoSource::new(),
+                second: ThreeSource::new(),
+            },
+        },
+    };
+    Engine::new(theory, rules)
+}
+
+/// Settles the engine. Where it is quiet, what is left lies within the closure of each path that the trail was on, and
+/// that closure has no empty set. `NoMemory` where no memory is found; the removals made before it stand.
+pub fn settle<'a>(
+    engine: &mut Engine<ProblemTheory<'a>, Rules>,
+    trail: &mut Trail,
+) -> Result<Outcome, NoMemory>
+    requires { trail.old.counts ≡ counts_of (case_of engine.old.theory.problem.now) }
+    ensures theory { engine.new.theory ≡ engine.old.theory }
+    ensures counts { trail.new.counts ≡ trail.old.counts }
+    ensures sound { Extends (case_of engine.old.theory.problem.now) engine.old.theory.lines trail.old.entries trail.new.entries }
+    ensures closed { (path : List Cond) → result ≡ Ok Outcome.Quiet → IsOnPath (case_of engine.old.theory.problem.now) path (box_of trail.old) → IsClosed (case_of engine.old.theory.problem.now) path (box_of trail.new) }
+    ensures wiped { (c : ℕ) → result ≡ Ok (Outcome.Wiped c) → IsEmptied (case_of engine.old.theory.problem.now) (box_of trail.new) c }
+{
+    engine.settle(trail)
+}

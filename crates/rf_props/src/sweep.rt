@@ -1,0 +1,84 @@
+ghost use Rattle.std.specs.Prelude.{◌≡◌, ◌+◌, ◌<◌, ◌≤◌, All, List, OnOk, length, take};
+ghost use Rattle.rf_terms.specs.Kinds.{roles_of};
+ghost use Rattle.rf_log.specs.Case.{counts_of};
+ghost use Rattle.rf_log.specs.Hints.{Line};
+ghost use Rattle.rf_zones.specs.declared.slices.TheConstants.{MAX_CARRIERS};
+ghost use Rattle.rf_problem.specs.Problem.{case_of};
+ghost use Rattle.rf_propagate.specs.Laws.{Extends};
+ghost use Rattle.rf_props.specs.Sweeps.{left, IsSwept, IsUnmoved, WhenUnmoved};
+
+use crate::single::{single, singles};
+use crate::strike::strike;
+use rf_base::NoMemory;
+use rf_problem::Problem;
+use rf_terms::{Kind, roles};
+use rf_trail::Trail;
+
+/// The instances of a kind in which one role is taken by the target, and the others by carriers with one index each.
+#[derive(Drop)]
+pub struct Sweep<'a> {
+    pub problem: &'a Problem,
+    pub kind: Kind,
+    pub place: usize,
+}
+
+impl Sweep<'_> {
+    /// Removes what breaks an instance whose other roles begin with `others[..depth]`. `NoMemory` where no memory is found.
+    pub fn extend(
+        &self,
+        others: [usize; 4],
+        depth: usize,
+        trail: &mut Trail,
+    ) -> Result<(), NoMemory>
+        requires counts { trail.old.counts ≡ counts_of (case_of self.now.problem.now) }
+        requires place { self.now.place < roles_of self.now.kind }
+        requires depth { depth < roles_of self.now.kind }
+        requires known { All (λ c. c < length self.now.problem.now.carriers) (take depth others) }
+        ensures counts { trail.new.counts ≡ trail.old.counts }
+        ensures sound { (lines : List Line) → Extends (case_of self.now.problem.now) lines trail.old.entries trail.new.entries }
+        ensures swept { OnOk result (WhenUnmoved trail.old trail.new (IsSwept (case_of self.now.problem.now) (left trail.new) self.now.kind self.now.place (take depth others))) }
+    {
+        if depth + 1 == roles(self.kind) {
+            return self.strike_all(&others[..depth], trail);
+        }
+        for carrier in 0..self.problem.carriers() {
+            match single(self.problem, trail, carrier) {
+                Some(_) => {}
+                None => continue,
+            }
+            let mut more = others;
+            more[depth] = carrier;
+            self.extend(more, depth + 1, trail)?;
+        }
+        Ok(())
+    }
+
+    /// Removes what breaks an instance with these carriers in the other roles.
+    fn strike_all(&self, others: &[usize], trail: &mut Trail) -> Result<(), NoMemory>
+        requires counts { trail.old.counts ≡ counts_of (case_of self.now.problem.now) }
+        requires place { self.now.place < roles_of self.now.kind }
+        requires others { length others.now + 1 ≡ roles_of self.now.kind }
+        requires known { All (λ c. c < length self.now.problem.now.carriers) others.now }
+        ensures counts { trail.new.counts ≡ trail.old.counts }
+        ensures sound { (lines : List Line) → Extends (case_of self.now.problem.now) lines trail.old.entries trail.new.entries }
+        ensures swept { OnOk result (WhenUnmoved trail.old trail.new (IsSwept (case_of self.now.problem.now) (left trail.new) self.now.kind self.now.place others.now)) }
+    {
+        let freqs = match singles(self.problem, trail, others) {
+            Some(freqs) => freqs,
+            None => return Ok(()),
+        };
+        let freqs = &freqs[..others.len()];
+        for target in 0..self.problem.carriers() {
+            strike(
+                self.problem,
+                self.kind,
+                self.place,
+                others,
+                freqs,
+                target,
+                trail,
+            )?;
+        }
+        Ok(())
+    }
+}

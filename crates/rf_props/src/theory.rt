@@ -1,0 +1,75 @@
+ghost use Rattle.std.specs.Prelude.{◌≡◌, [], IfOk};
+ghost use Rattle.std.specs.List.Sorted.{IsStrictlyIncreasing};
+ghost use Rattle.rf_log.specs.Case.{counts_of};
+ghost use Rattle.rf_problem.specs.Problem.{case_of};
+ghost use Rattle.rf_propagate.specs.Laws.{AreKnown, numbers_of};
+
+use crate::lines::Lines;
+use rf_base::{Items, NoMemory};
+use rf_log::Cond;
+use rf_problem::Problem;
+use rf_propagate::{Grows, Theory};
+use std::alloc::Global;
+
+/// A problem with the nogood lines of the log so far.
+#[derive(Drop)]
+pub struct ProblemTheory<'a> {
+    problem: &'a Problem,
+    counts: Items<u32>,
+    lines: Lines,
+    ghost counted: { counts ≡ counts_of (case_of problem.now) },
+    ghost rising: { IsStrictlyIncreasing (numbers_of lines) },
+    ghost in_range: { AreKnown (case_of problem.now) lines },
+}
+
+impl<'a> ProblemTheory<'a> {
+    /// The theory of a problem, without lines. `NoMemory` where no memory is found.
+    pub fn new(alloc: Global, problem: &'a Problem) -> Result<ProblemTheory<'a>, NoMemory>
+        ensures problem { IfOk result (λ theory. theory.problem.now ≡ problem.now) }
+        ensures lines { IfOk result (λ theory. theory.lines ≡ []) }
+    {
+        let counts = Items::from_vec(counts(alloc, problem)?);
+        Ok(ProblemTheory {
+            problem,
+            counts,
+            lines: Lines::new(alloc),
+        })
+    }
+
+    /// The problem.
+    pub fn problem(&self) -> &Problem
+        ensures { result.now ≡ self.now.problem.now }
+    {
+        self.problem
+    }
+}
+
+fn counts(alloc: Global, problem: &Problem) -> Result<Vec<u32>, NoMemory>
+    ensures { IfOk result (λ counts. counts.items ≡ counts_of (case_of problem.now)) }
+{
+    let mut counts = Vec::new(alloc);
+    for carrier in 0..problem.carriers() {
+        counts.push(problem.count(carrier))?;
+    }
+    Ok(counts)
+}
+
+impl<'a> Theory for ProblemTheory<'a> {
+    ghost case = { λ t. case_of t.problem.now };
+
+    ghost lines = { λ t. t.lines };
+
+    fn counts(&self) -> &[u32] {
+        self.counts.as_slice()
+    }
+
+    ghost rising = { λ t. t.rising };
+
+    ghost in_range = { λ t. t.in_range };
+}
+
+impl<'a> Grows for ProblemTheory<'a> {
+    fn grow(&mut self, line: u32, conds: &[Cond]) -> Result<(), NoMemory> {
+        self.lines.push(line, conds)
+    }
+}
