@@ -7,9 +7,8 @@ use rf_base::{Khz, Name, NoMemory};
 use rf_show::{Carrier, Edit, Show};
 use rf_zones::Zones;
 use std::alloc::Global;
-use std::mem;
-use std::str;
 use std::test::Fail;
+use std::{mem, str};
 
 // Numbers drawn one after another.
 #[derive(Drop)]
@@ -97,7 +96,11 @@ fn text_of(alloc: Global, show: &Show) -> Result<String, NoMemory> {
     for profile in show.profiles() {
         let ranges = profile.channels.ranges().len();
         let count = profile.channels.count();
-        write!(text, "profile {} {ranges} {count};", name_text(&profile.name))?;
+        write!(
+            text,
+            "profile {} {ranges} {count};",
+            name_text(&profile.name)
+        )?;
     }
     write_zones(&mut text, show.zones())?;
     for carrier in show.carriers() {

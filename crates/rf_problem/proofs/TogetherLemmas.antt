@@ -26,10 +26,12 @@ tested_below n (c ∷ cs) below =
     grind (arith, nat_tests)
 
 joined_same : (p : ProblemData) → IsOfSets (are_joined p)
-joined_same p = record { same = λ s t into back.
-    same_bools (are_joined p s) (are_joined p t)
-    (joined_part p s t (λ c among. all_at (is_among s) t c back among))
-    (joined_part p t s (λ c among. all_at (is_among t) s c into among)) }
+joined_same p = record {
+  same = λ s t into back.
+      same_bools (are_joined p s) (are_joined p t)
+      (joined_part p s t (λ c among. all_at (is_among s) t c back among))
+      (joined_part p t s (λ c among. all_at (is_among t) s c into among));
+}
 
 pub joined_is_together : SetsAreTested → (p : ProblemData) (set : List ℕ) → All (λ c. c < length p.carriers) set → IsTrue (are_distinct set) → 2 ≤ length set → length set ≤ 4
     → are_joined p set ≡ are_together (case_of p) set

@@ -62,7 +62,7 @@ adds_each old new f xs index h a = let all = take_all index xs h in rw all at a
 
 both : {X Y : Type 0} (f : X → Y) (test : Bool) (xs : List X) (x : X) → map f (xs ++ (if test then x ∷ [] else [])) ≡ map f xs ++ (if test then f x ∷ [] else [])
 both f true xs x = map-push f xs x
-both f false xs x = rw append-nil (sym (append-nil (map f xs)))
+both f false xs x = rw (append-nil xs) (sym (append-nil (map f xs)))
 
 mapped : {X Y : Type 0} (f : X → Y) (p : X → Bool) (xs : List X) (x : X) → map f (xs ++ (if p x then x ∷ [] else [])) ≡ map f xs ++ (if p x then f x ∷ [] else [])
 mapped f p xs x = both f (p x) xs x
