@@ -5,3 +5,4 @@ pub mod Serving
 pub mod Starting
 pub mod Obeying
 pub mod UnfetchedLaws
+pub mod Unasked

@@ -76,6 +76,10 @@ abbrev pub profiles_edit : Result (List Profile) FileFault → Result Edit FileF
 profiles_edit (Ok list) = Ok (edit.AddProfiles list)
 profiles_edit (Err why) = Err why
 
+-- the profiles of a file are added
+abbrev pub with_profiles : History → Got → Outcome
+with_profiles history got = edited_by history (profiles_edit (profiles_in got))
+
 -- the edit that adds a scan with the hot points of a file
 abbrev pub scan_edit : List ℕ → List ℕ → Decimal → ℕ → Sep → Result (List ℕ) FileFault → Result Edit FileFault
 scan_edit file zone threshold width sep (Ok hot) = Ok (edit.AddScan file sep zone threshold width hot)
@@ -90,7 +94,7 @@ file_of _ = None
 -- What a command comes to, where this came of the file that it names; a command that names none doesn't look at it.
 abbrev pub outcome : History → Command → Got → Outcome
 outcome history (command.Change edit) got = edited history edit
-outcome history (command.Profiles file) got = edited_by history (profiles_edit (profiles_in got))
+outcome history (command.Profiles file) got = with_profiles history got
 outcome history (command.Scan file zone threshold width sep) got = edited_by history (scan_edit file zone threshold width sep (hot_in sep threshold got))
 outcome history command.Undo got = moved history (ok_or (undone history) NoStep)
 outcome history command.Redo got = moved history (ok_or (redone history) NoStep)

@@ -1,19 +1,18 @@
 -- What the words of the command line ask for.
-use Rattle.std.specs.Prelude.{ℕ, Bool, false, List, [], ◌∷◌, codes, String}
+use Rattle.std.specs.Prelude.{ℕ, List, codes, map, String}
 use Rattle.std.specs.Io.KnownBytes.{Appends}
-use Rattle.std.specs.Str.{bytes_eq}
 use Rattle.std.specs.String.{string_bytes}
 use Rattle.std.specs.declared.alloc.Global.{Global}
 use Rattle.std.specs.declared.option.Option.{Option}
+use Rattle.rf_words.specs.Words.{asked_by}
+use Rattle.rf_words.specs.declared.asked.Asked.{Asked}
 use Rattle.rf_base.specs.Piece.{AppendsPrefix}
 use Rattle.rf_base.specs.declared.status.Status.{Status}
 use Rattle.rf_base.specs.declared.status.Status.TheVariants.{Done, Refused, Words, Read, Write, Shelf, Memory, Long}
 
--- the plain words of a session
-abbrev pub is_session : List (String Global) → Bool
-is_session [] = false
-is_session (word ∷ []) = bytes_eq (string_bytes word) (codes "session")
-is_session (word ∷ next ∷ words) = false
+-- what the words of the command line ask for
+abbrev pub asks : List (String Global) → Option Asked
+asks words = asked_by (map string_bytes words)
 
 -- what words come to that run no command: the line `error usage`, or a part of it where the sink or memory failed
 abbrev pub Usage : Status → Option (List ℕ) → Option (List ℕ) → Type 0

@@ -82,7 +82,7 @@ impl ShowMachine {
         match command {
             Command::Profiles { file } => {
                 let got = fetch_file(self.alloc, shelf, file.text())?;
-                self.add_profiles(file, got)
+                self.add_profiles(got)
             }
             Command::Scan {
                 file,
@@ -114,10 +114,10 @@ impl ShowMachine {
     }
 
     /// Adds the profiles of a file.
-    fn add_profiles(&mut self, name: FileName, file: File) -> Result<Reply, NoMemory>
+    fn add_profiles(&mut self, file: File) -> Result<Reply, NoMemory>
         requires { IsSmall (got_of file) }
-        ensures reply { IfOk result (λ reply. reply ≡ (spec.outcome self.old (Command.Profiles name) (got_of file)).reply) }
-        ensures history { IfOk result (λ reply. self.new ≡ (spec.outcome self.old (Command.Profiles name) (got_of file)).history) }
+        ensures reply { IfOk result (λ reply. reply ≡ (spec.with_profiles self.old (got_of file)).reply) }
+        ensures history { IfOk result (λ reply. self.new ≡ (spec.with_profiles self.old (got_of file)).history) }
     {
         match profiles_in(self.alloc, file) {
             Ok(list) => self.change(Edit::AddProfiles { list }),

@@ -28,10 +28,11 @@ impl Outcome {
     }
 }
 
-/// The program with this word over this input, of which each call of the source or the sink moves at most `most` bytes.
+/// The program with these words, which stand between blanks, over this input, of which each call of the source or the
+/// sink moves at most `most` bytes.
 fn outcome_of(
     alloc: Global,
-    word: &str,
+    words: &str,
     input: Vec<u8>,
     most: usize,
     faults: Faults,
@@ -39,13 +40,13 @@ fn outcome_of(
     requires { 0 < most }
 {
     let shelf = MemShelf::new(alloc, Vec::new(alloc), Vec::new(alloc));
-    outcome_over(alloc, word, input, most, faults, shelf)
+    outcome_over(alloc, words, input, most, faults, shelf)
 }
 
 /// The same over the files of a shelf.
 fn outcome_over(
     alloc: Global,
-    word: &str,
+    words: &str,
     input: Vec<u8>,
     most: usize,
     faults: Faults,
@@ -53,14 +54,16 @@ fn outcome_over(
 ) -> Result<Outcome, Fail>
     requires { 0 < most }
 {
-    let mut words = Vec::new(alloc);
-    words.push(String::from_str(alloc, word)?)?;
+    let mut list = Vec::new(alloc);
+    for word in words.split(' ') {
+        list.push(String::from_str(alloc, word)?)?;
+    }
     let mut source = MemSource::new(input, most, vec![in alloc; faults.read]?);
     let mut shelf = shelf;
     let Ok(mut sink) = MemSink::new(alloc, 1000, most, vec![in alloc; faults.write]?) else {
         return Err(Fail::from("no memory"));
     };
-    let status = run(alloc, words.as_slice(), &mut source, &mut shelf, &mut sink);
+    let status = run(alloc, list.as_slice(), &mut source, &mut shelf, &mut sink);
     let written = sink.bytes().to_vec(alloc)?;
     Ok(Outcome { status, written })
 }
@@ -237,14 +240,11 @@ fn ends_at_a_fault(rt: HostRuntime) -> Result<(), Fail> {
 
 #[test]
 fn refuses_other_words(rt: HostRuntime) -> Result<(), Fail> {
-    let outcome = outcome_of(
-        rt.alloc(),
-        "sessions",
-        b"undo\n".to_vec(rt.alloc())?,
-        1000,
-        NO_FAULTS,
-    )?;
-    assert!(rt; outcome.is(Status::Words, "error usage\n"));
+    for words in ["sessions", "session x", "-h", "session -h", "check x"] {
+        let input = b"undo\n".to_vec(rt.alloc())?;
+        let outcome = outcome_of(rt.alloc(), words, input, 1000, NO_FAULTS)?;
+        assert!(rt; outcome.is(Status::Words, "error usage\n"));
+    }
     Ok(())
 }
 

@@ -2,19 +2,9 @@
 
 ghost use Rattle.std.specs.Prelude.{◌≡◌, ◌≤◌};
 ghost use Rattle.rf_base.specs.Cause.{Rose};
-ghost use Rattle.rf_session.specs.Words.{is_session, Usage};
+ghost use Rattle.rf_session.specs.Words.{Usage};
 
 use rf_base::{Failed, Sink, Status, put};
-
-/// Whether these are the plain words of a session: the one word `session`.
-pub(crate) fn is_session(words: &[String]) -> bool
-    ensures { result ≡ is_session words.now }
-{
-    match words {
-        [word] => word.as_str() == "session",
-        _ => false,
-    }
-}
 
 /// Says that the words of the command line run no command.
 pub(crate) fn refuse_words<O: Sink>(output: &mut O) -> Status

@@ -1,0 +1,11 @@
+//! The words of the command line, read with `clap`.
+#![tactic(auto)]
+
+mod asked;
+mod words;
+
+pub use asked::Asked;
+pub use words::{WordsFault, read_words};
+
+#[cfg(test)]
+mod tests;
