@@ -1,10 +1,17 @@
 -- The numbers of channels of a case, and lines that are added to others.
-use Rattle.std.proofs.Common.{◌≡◌, ◌∙◌, refl, ℕ, zero, suc, ◌+◌, ◌<◌, List, [], ◌∷◌, ◌++◌, length, map, take, get_or, sym, ap, subst, arith, inl, inr, length-append}
+use Rattle.std.proofs.Common.{◌≡◌, ◌∙◌, refl, ℕ, zero, suc, ◌+◌, ◌<◌, ◌≤◌, List, [], ◌∷◌, ◌++◌, length, map, take, get_or, sym, ap, subst, arith, inl, inr, length-append}
 use Rattle.std.specs.Prelude.{Result, Ok, Err, OnOk, OnErr}
 use Rattle.std.specs.List.Sorted.{IsStrictlyIncreasing}
 use Rattle.std.proofs.lemmas.List.{take_more, get_or-map, length-map, map-append, get_or_append_left, get_or-append-add}
 use Rattle.std.proofs.lemmas.List.Elements.{Contains-push_cases, Contains-get_or}
 use Rattle.std.proofs.lemmas.Bool.{cases_lt}
+use Rattle.std.specs.List.{list_all}
+use Rattle.std.specs.Prelude.{nat_le, true}
+use Rattle.std.proofs.lemmas.Bool.{and_from, le-leb}
+use Rattle.std.proofs.lemmas.List.{take_all}
+use Rattle.std.proofs.lemmas.List.Folds.{list_all-append}
+use Rattle.rf_domain.specs.declared.limits.TheConstants.{CARRIER_LIMIT, INDEX_LIMIT}
+use Rattle.rf_domain.specs.Sets.{AreCounts}
 use Rattle.rf_log.specs.declared.cond.Cond.{Cond}
 use Rattle.rf_log.specs.Case.{Case, Carrier, count_of, counts_of, no_carrier}
 use Rattle.rf_log.specs.Hints.{Line}
@@ -74,3 +81,23 @@ kept_push case lines now number conds rising known above more (Ok x) is none =
     (subst (λ ls. IsStrictlyIncreasing (numbers_of ls)) (sym is) (rising_more lines number conds rising above), subst (AreKnown case) (sym is) (known_more case lines number conds known more))
 kept_push case lines now number conds rising known above more (Err x) none is =
     (subst (λ ls. IsStrictlyIncreasing (numbers_of ls)) (sym is) rising, subst (AreKnown case) (sym is) known)
+
+-- the counts of the first so many carriers
+pub record CountsUpTo (case : Case) (counts : List ℕ) (n : ℕ) : Type 0 where
+  pub is : counts ≡ take n (counts_of case)
+  pub small : list_all (λ m. nat_le m INDEX_LIMIT) counts ≡ true
+
+pub upto_none : (case : Case) (counts : List ℕ) → counts ≡ [] → CountsUpTo case counts 0
+upto_none case counts none = record { is = none; small = ap (list_all (λ m. nat_le m INDEX_LIMIT)) none }
+
+pub upto_more : (case : Case) (c n : ℕ) (xs ys : List ℕ) → CountsUpTo case xs c → c < length case.carriers → n ≡ count_of case c → n ≤ INDEX_LIMIT → ys ≡ xs ++ n ∷ [] → CountsUpTo case ys (c + 1)
+upto_more case c n xs ys so known e fits is = record {
+  is = is ∙ counts_more case c n xs known so.is e;
+  small = ap (list_all (λ m. nat_le m INDEX_LIMIT)) is ∙ list_all-append (λ m. nat_le m INDEX_LIMIT) xs (n ∷ []) ∙ and_from _ _ so.small (and_from (nat_le n INDEX_LIMIT) true (le-leb n INDEX_LIMIT fits) refl);
+}
+
+pub upto_all : (case : Case) (xs : List ℕ) (n : ℕ) → CountsUpTo case xs n → length case.carriers ≤ n → xs ≡ counts_of case
+upto_all case xs n so all = so.is ∙ take_all n (counts_of case) (omega (arith, counts_length case))
+
+pub upto_counts : (case : Case) (xs : List ℕ) (n : ℕ) → CountsUpTo case xs n → length case.carriers ≤ n → length case.carriers ≤ CARRIER_LIMIT → AreCounts xs
+upto_counts case xs n so all few = record { few = omega (arith, ap length (upto_all case xs n so all), counts_length case, few); small = so.small }

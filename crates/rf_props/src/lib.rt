@@ -12,6 +12,8 @@ mod single;
 mod spacing;
 mod strike;
 mod sweep;
+#[cfg(test)]
+mod tests;
 mod theory;
 mod three_source;
 mod two_source;
@@ -19,6 +21,6 @@ mod two_source;
 pub use bans::Bans;
 pub use engine::{Rules, engine_of, settle};
 pub use spacing::Spacing;
-pub use theory::ProblemTheory;
+pub use theory::{ProblemTheory, trail_of};
 pub use three_source::ThreeSource;
 pub use two_source::TwoSource;

@@ -1,6 +1,7 @@
 ghost use Rattle.std.specs.Prelude.{◌≡◌, [], IfOk};
 ghost use Rattle.std.specs.List.Sorted.{IsStrictlyIncreasing};
 ghost use Rattle.rf_log.specs.Case.{counts_of};
+ghost use Rattle.rf_domain.specs.Sets.{AreCounts};
 ghost use Rattle.rf_problem.specs.Problem.{case_of};
 ghost use Rattle.rf_propagate.specs.Laws.{AreKnown, numbers_of};
 
@@ -9,6 +10,7 @@ use rf_base::{Items, NoMemory};
 use rf_log::Cond;
 use rf_problem::Problem;
 use rf_propagate::{Grows, Theory};
+use rf_trail::Trail;
 use std::alloc::Global;
 
 /// A problem with the nogood lines of the log so far.
@@ -44,8 +46,18 @@ impl<'a> ProblemTheory<'a> {
     }
 }
 
+/// The trail of a problem, with all its channels and no entry. `NoMemory` where no memory is found.
+pub fn trail_of(alloc: Global, problem: &Problem) -> Result<Trail, NoMemory>
+    ensures { IfOk result (λ trail. trail ≡ record { counts = counts_of (case_of problem.now); entries = [] }) }
+{
+    let counts = counts(alloc, problem)?;
+    Trail::new(alloc, &counts)
+}
+
+// The numbers of channels of the carriers.
 fn counts(alloc: Global, problem: &Problem) -> Result<Vec<u32>, NoMemory>
-    ensures { IfOk result (λ counts. counts.items ≡ counts_of (case_of problem.now)) }
+    ensures value { IfOk result (λ counts. counts.items ≡ counts_of (case_of problem.now)) }
+    ensures small { IfOk result (λ counts. AreCounts counts.items) }
 {
     let mut counts = Vec::new(alloc);
     for carrier in 0..problem.carriers() {

@@ -1,16 +1,21 @@
-use Rattle.std.proofs.Common.{◌∙◌, arith}
-use Rattle.std.proofs.lemmas.List.{take_all}
-use Rattle.rf_log.specs.Case.{counts_of}
+use Rattle.std.proofs.Common.{arith}
 use Rattle.rf_problem.specs.Problem.{case_of}
-use Rattle.rf_props.proofs.CountLemmas.{counts_more, counts_length}
+use Rattle.rf_props.proofs.CountLemmas.{upto_none, upto_more, upto_all, upto_counts}
 use Rattle.rf_props.proofs.theory.counts.Goals as goal
+
+pub loop-carrier-init : goal.loop-carrier-init
+loop-carrier-init c = upto_none (case_of c.args.problem.now) _ c.new-counts.ensures.items
 
 pub loop-carrier-preserved : goal.loop-carrier-preserved
 loop-carrier-preserved c =
-    c.in_ok-push.ensures.items
-    ∙ counts_more (case_of c.args.problem.now) c.loop-carrier.carrier c.count.result c.loop-carrier.counts.items (omega (arith, c.carriers-carrier-end.ensures.value)) c.loop-carrier.invariant c.count.ensures.value
+    upto_more (case_of c.args.problem.now) c.loop-carrier.carrier c.count.result c.loop-carrier.counts.items c.push.new.self.items c.loop-carrier.invariant
+    (omega (arith, c.carriers-carrier-end.ensures.value)) c.count.ensures.value (omega (arith, c.count.ensures.few)) c.in_ok-push.ensures.items
 
-pub returns : goal.returns
-returns c =
-    c.loop-carrier.invariant
-    ∙ take_all c.loop-carrier.carrier (counts_of (case_of c.args.problem.now)) (omega (arith, c.carriers-carrier-end.ensures.value, counts_length (case_of c.args.problem.now)))
+pub returns-clause-value : goal.returns-clause-value
+returns-clause-value c =
+    upto_all (case_of c.args.problem.now) c.loop-carrier.counts.items c.loop-carrier.carrier c.loop-carrier.invariant (omega (arith, c.carriers-carrier-end.ensures.value))
+
+pub returns-clause-small : goal.returns-clause-small
+returns-clause-small c =
+    upto_counts (case_of c.args.problem.now) c.loop-carrier.counts.items c.loop-carrier.carrier c.loop-carrier.invariant (omega (arith, c.carriers-carrier-end.ensures.value))
+    (omega (arith, c.carriers-carrier-end.ensures.value, c.carriers-carrier-end.ensures.few))
