@@ -1,0 +1,85 @@
+-- The endings of a search after Quiet: a plan, or the budget spent.
+use Rattle.std.proofs.Common.{◌≡◌, ℕ, zero, suc, ◌+◌, ◌<◌, ◌≤◌, ◌==◌, List, [], ◌∷◌, length, Bool, true, false, refl, sym, ◌∙◌, ap, subst, arith, inl, inr, slice_index}
+use Rattle.std.specs.Prelude.{Option, Some, None, Contains, IsTrue}
+use Rattle.std.specs.List.{count_by}
+use Rattle.std.proofs.lemmas.Bool.{cases_Bool, and_parts, eqb-true}
+use Rattle.rf_terms.specs.declared.kind.Kind.{Kind}
+use Rattle.rf_terms.specs.declared.kind.Kind.TheVariants.{Spacing, T3Two, T3Three, T5Two, T5ThreeA, T5ThreeB}
+use Rattle.rf_log.specs.declared.cond.Cond.{Cond}
+use Rattle.rf_log.specs.declared.line.LogLine.{LogLine}
+use Rattle.rf_terms.specs.Kinds.{roles_of}
+use Rattle.rf_log.specs.Case.{Case, IsPlan, count_of, is_instance, breaks, is_allowed}
+use Rattle.rf_log.specs.Box.{Box}
+use Rattle.rf_log.specs.Relations.{members, IsSole, IsSettled, IsAllowedThroughout, IsStruck}
+use Rattle.rf_log.specs.Walk.{is_branch}
+use Rattle.rf_log.specs.Solved.{IsSpent, IsSolved, spent, planned}
+use Rattle.rf_log.proofs.Instances.{known_role}
+use Rattle.rf_propagate.specs.Laws.{IsQuiet, HasEveryKind, IsClosed}
+use Rattle.rf_search.specs.State.{IsSearching}
+
+-- the list has the one index of each carrier
+pub record AreSole (case : Case) (box : Box) (plan : List ℕ) : Type 0 where
+  pub full : length plan ≡ length case.carriers
+  pub below : (c k : ℕ) → box c k ≡ true → k < count_of case c
+  pub each : (c : ℕ) → c < length plan → IsSole (members box) c (slice_index plan c)
+
+some_roles : (kind : Kind) → 0 < roles_of kind
+some_roles Spacing = omega arith
+some_roles T3Two = omega arith
+some_roles T3Three = omega arith
+some_roles T5Two = omega arith
+some_roles T5ThreeA = omega arith
+some_roles T5ThreeB = omega arith
+
+pub plan_from : (case : Case) (kinds : List Kind) (box : Box) (plan : List ℕ) → HasEveryKind kinds → IsQuiet case kinds true (members box)
+    → AreSole case box plan → IsPlan case plan
+plan_from case kinds box plan every quiet sole = record {
+  full = sole.full;
+  known = λ c low. sole.below c (slice_index plan c) (sole.each c low).0;
+  allowed = λ c low. quiet.allowed refl c (slice_index plan c) (sole.each c low).0;
+  kept = λ kind roles inst. elim (cases_Bool (breaks case kind roles (slice_index plan))) [
+    | inr fine ↦ fine
+    | inl broken ↦ absurd (no_break kind roles inst broken)
+  ];
+}
+  where
+    no_break : (kind : Kind) (roles : List ℕ) → IsTrue (is_instance case kind roles) → breaks case kind roles (slice_index plan) ≡ true → ⊥
+    no_break kind [] inst broken =
+        let size : length {A = ℕ} [] ≡ roles_of kind = eqb-true _ _ (and_parts _ _ (and_parts _ _ (and_parts _ _ (and_parts _ _ inst).0).0).0).0 in
+        absurd (omega (arith, some_roles kind, size))
+    no_break kind (r ∷ rs) inst broken =
+        let first : Contains (r ∷ rs) r = (0, omega arith, refl) in
+        let low : r < length plan = omega (arith, known_role case kind (r ∷ rs) r inst first, sole.full) in
+        let struck : IsStruck case kinds (members box) r (slice_index plan r) = record {
+          kind = kind;
+          among = every.each kind;
+          roles = r ∷ rs;
+          at = slice_index plan;
+          is_instance = inst;
+          target = first;
+          here = refl;
+          others = λ s has other. sole.each s (omega (arith, known_role case kind (r ∷ rs) s inst has, sole.full));
+          breaks = broken;
+        } in
+        quiet.settled r (slice_index plan r) (sole.each r low).0 struck
+
+pub ends_in_plan : (case : Case) (n : ℕ) (log : List LogLine) (path : List Cond) (kinds : List Kind) (box : Box) (plan : List ℕ)
+    → IsSearching case n log path → HasEveryKind kinds → IsQuiet case kinds true (members box) → AreSole case box plan → IsSolved case n log (planned plan)
+ends_in_plan case n log path kinds box plan at every quiet sole = record { started = at.started; ends = plan_from case kinds box plan every quiet sole }
+
+pub ends_spent : (case : Case) (n : ℕ) (log : List LogLine) (path : List Cond) (box : Box) (c k j : ℕ) → IsSearching case n log path
+    → IsClosed case path (members box) → count_by is_branch log ≡ n → c < length case.carriers
+    → box c k ≡ true → box c j ≡ true → (j ≡ k → ⊥) → IsSolved case n log spent
+ends_spent case n log path box c k j at closed all known here there other = record {
+  started = at.started;
+  ends = record {
+    all = all;
+    path = path;
+    at = at.at;
+    living = closed.living;
+    carrier = c;
+    known = known;
+    one = (k, closed.within c k here);
+    other = (j, closed.within c j there, other);
+  };
+}

@@ -1,0 +1,15 @@
+pub mod Narrow
+pub mod Pushed
+pub mod Sizes
+pub mod WholeTrail
+pub mod LineValid
+pub mod Steps
+pub mod Endings
+pub mod Collect
+pub mod Budget
+pub mod Choosing
+pub mod Turning
+pub mod WritableLemmas
+pub mod UnderWay
+pub mod Decided
+pub mod Handing

@@ -1,0 +1,20 @@
+//! The search: branchings and nogoods over a trail, with a log of every step.
+#![tactic(auto)]
+
+mod answer;
+mod choice;
+mod hints;
+mod laws;
+mod level;
+mod limits;
+mod out;
+mod run;
+mod search;
+mod solve;
+mod turn;
+
+pub use answer::Answer;
+pub use laws::{budget_is_enough, decided_is_not_spent};
+pub use limits::{MAX_BUDGET, MAX_NUMBER};
+pub use out::{LogFail, LogOut};
+pub use solve::{SolveFault, solve_by};
