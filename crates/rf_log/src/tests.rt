@@ -1,4 +1,6 @@
-use crate::{Cond, Conds, LogText, line_text, read_log};
+use crate::{Cond, Conds, Cut, LogLine, LogText, line_text, read_log};
+use rf_base::{Items, Name};
+use std::test::Fail;
 
 #[test]
 fn conditions_keep_their_order_beyond_eight(rt: HostRuntime) {
@@ -21,24 +23,58 @@ fn conditions_keep_their_order_beyond_eight(rt: HostRuntime) {
 }
 
 #[test]
-fn a_log_is_read_and_written_as_it_was(rt: HostRuntime) {
+fn logs_are_read(rt: HostRuntime) {
     let texts = [
-        "",
-        "b fix a 0\nn in a 0 0 ; rule spacing a b 2 0 1\nu 2\nn out a 0 0 ; rule spacing a b 2 0 1\nu 4\n",
-        "n ; ban zz 0 0\nn ;\nb split in 999999999\n",
-        "n in in 0 1 out n 2 2 in line 0 0 ; line 3 ban line 0 4 rule 2a+b-2c ban rule 7 u 4 1 2\n",
+        ("", 0, 0),
+        (
+            "b fix a 0\nn in a 0 0 ; rule spacing a b 2 0 1\nu 2\nn out a 0 0 ; rule spacing a b 2 0 1\nu 4\n",
+            5,
+            2,
+        ),
+        ("n ; ban zz 0 0\nn ;\nb split in 999999999\n", 3, 2),
+        (
+            "n in in 0 1 out n 2 2 in line 0 0 ; line 3 ban line 0 4 rule 2a+b-2c ban rule 7 u 4 1 2\nplan\n?",
+            1,
+            7,
+        ),
     ];
-    for text in &texts {
+    for (text, lines, names) in &texts {
         let log = read_log(rt.alloc(), text.as_bytes()).expect(&rt, "a log");
-        let mut written = Vec::new(rt.alloc());
-        for line in log.lines() {
-            let line = line_text(rt.alloc(), line, log.names()).expect(&rt, "memory");
-            written
-                .extend_from_slice(line.as_slice())
-                .expect(&rt, "memory");
-        }
-        assert_eq!(rt; written.as_slice(), text.as_bytes());
+        assert!(rt; log.lines().len() == *lines);
+        assert!(rt; log.names().len() == *names);
     }
+}
+
+#[test]
+fn lines_are_written(rt: HostRuntime) -> Result<(), Fail> {
+    let alloc = rt.alloc();
+    let names = [
+        Name::read(b"a").ok_or("a name")?,
+        Name::read(b"b").ok_or("a name")?,
+    ];
+    let fix = LogLine::Branch {
+        cut: Cut::Fix,
+        carrier: 0,
+        at: 0,
+    };
+    assert_eq!(rt; line_text(alloc, &fix, &names)?.as_slice(), b"b fix a 0\n".as_slice());
+    let split = LogLine::Branch {
+        cut: Cut::Split,
+        carrier: 1,
+        at: 999_999_999,
+    };
+    assert_eq!(rt;
+        line_text(alloc, &split, &names)?.as_slice(),
+        b"b split b 999999999\n".as_slice()
+    );
+    let up = LogLine::Up { line: 4 };
+    assert_eq!(rt; line_text(alloc, &up, &names)?.as_slice(), b"u 4\n".as_slice());
+    let nogood = LogLine::Nogood {
+        conds: Conds::new(alloc),
+        hints: Items::from_vec(Vec::new(alloc)),
+    };
+    assert_eq!(rt; line_text(alloc, &nogood, &names)?.as_slice(), b"n ;\n".as_slice());
+    Ok(())
 }
 
 #[test]
