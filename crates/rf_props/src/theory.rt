@@ -48,7 +48,8 @@ impl<'a> ProblemTheory<'a> {
 
 /// The trail of a problem, with all its channels and no entry. `NoMemory` where no memory is found.
 pub fn trail_of(alloc: Global, problem: &Problem) -> Result<Trail, NoMemory>
-    ensures { IfOk result (λ trail. trail ≡ record { counts = counts_of (case_of problem.now); entries = [] }) }
+    ensures value { IfOk result (λ trail. trail ≡ record { counts = counts_of (case_of problem.now); entries = [] }) }
+    ensures small { IfOk result (λ trail. AreCounts (counts_of (case_of problem.now))) }
 {
     let counts = counts(alloc, problem)?;
     Trail::new(alloc, &counts)

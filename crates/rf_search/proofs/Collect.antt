@@ -1,11 +1,10 @@
 -- The hints of a trail, collected from the oldest entry on.
-use Rattle.std.proofs.Common.{◌≡◌, ℕ, zero, suc, ◌+◌, ◌-◌, ◌<◌, ◌≤◌, List, [], ◌∷◌, ◌++◌, length, take, drop, reverse, get_or, refl, sym, ◌∙◌, ap, subst, arith}
-use Rattle.std.specs.Prelude.{Option, Some, None, slice_get}
+use Rattle.std.proofs.Common.{◌≡◌, ℕ, suc, ◌+◌, ◌-◌, ◌<◌, List, [], ◌∷◌, ◌++◌, length, take, drop, reverse, get_or, sym, ◌∙◌, ap, arith}
+use Rattle.std.specs.Prelude.{Some, slice_get}
 use Rattle.std.proofs.lemmas.Option.{get_or_from_slice_get}
 use Rattle.std.proofs.lemmas.List.{take_more, length-reverse, map-append, get_or-reverse}
 use Rattle.std.proofs.Math.Seq.{drop-cons}
 use Rattle.rf_log.specs.declared.cond.Cond.{Cond}
-use Rattle.rf_log.specs.declared.hint.Hint.{Hint}
 use Rattle.rf_trail.specs.declared.entry.Entry.{Entry}
 use Rattle.rf_search.specs.Paths.{hints_of, hint_in}
 use Rattle.rf_search.specs.declared.level.Level.{Level}

@@ -1,6 +1,6 @@
 -- The endings of a search after Quiet: a plan, or the budget spent.
-use Rattle.std.proofs.Common.{◌≡◌, ℕ, zero, suc, ◌+◌, ◌<◌, ◌≤◌, ◌==◌, List, [], ◌∷◌, length, Bool, true, false, refl, sym, ◌∙◌, ap, subst, arith, inl, inr, slice_index}
-use Rattle.std.specs.Prelude.{Option, Some, None, Contains, IsTrue}
+use Rattle.std.proofs.Common.{◌≡◌, ℕ, ◌<◌, List, [], ◌∷◌, length, true, refl, arith, inl, inr, slice_index}
+use Rattle.std.specs.Prelude.{Contains, IsTrue}
 use Rattle.std.specs.List.{count_by}
 use Rattle.std.proofs.lemmas.Bool.{cases_Bool, and_parts, eqb-true}
 use Rattle.rf_terms.specs.declared.kind.Kind.{Kind}
@@ -8,11 +8,11 @@ use Rattle.rf_terms.specs.declared.kind.Kind.TheVariants.{Spacing, T3Two, T3Thre
 use Rattle.rf_log.specs.declared.cond.Cond.{Cond}
 use Rattle.rf_log.specs.declared.line.LogLine.{LogLine}
 use Rattle.rf_terms.specs.Kinds.{roles_of}
-use Rattle.rf_log.specs.Case.{Case, IsPlan, count_of, is_instance, breaks, is_allowed}
+use Rattle.rf_log.specs.Case.{Case, IsPlan, count_of, is_instance, breaks}
 use Rattle.rf_log.specs.Box.{Box}
-use Rattle.rf_log.specs.Relations.{members, IsSole, IsSettled, IsAllowedThroughout, IsStruck}
+use Rattle.rf_log.specs.Relations.{members, IsSole, IsStruck}
 use Rattle.rf_log.specs.Walk.{is_branch}
-use Rattle.rf_log.specs.Solved.{IsSpent, IsSolved, spent, planned}
+use Rattle.rf_log.specs.Solved.{IsSolved, spent, planned}
 use Rattle.rf_log.proofs.Instances.{known_role}
 use Rattle.rf_propagate.specs.Laws.{IsQuiet, HasEveryKind, IsClosed}
 use Rattle.rf_search.specs.State.{IsSearching}

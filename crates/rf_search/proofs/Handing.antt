@@ -1,5 +1,5 @@
 -- Lines that are handed out one after another.
-use Rattle.std.proofs.Common.{◌≡◌, ℕ, ◌+◌, ◌<◌, ◌≤◌, ◌^◌, ◌-◌, List, [], ◌∷◌, ◌++◌, length, take, get_or, refl, sym, ◌∙◌, ap, subst, arith, min}
+use Rattle.std.proofs.Common.{◌≡◌, ℕ, ◌+◌, ◌<◌, ◌≤◌, List, [], ◌∷◌, ◌++◌, length, take, get_or, refl, sym, ◌∙◌, ap, subst, arith}
 use Rattle.std.specs.Prelude.{Result, Err}
 use Rattle.std.proofs.lemmas.List.{take_more}
 use Rattle.rf_base.specs.Cause.{Rose}
@@ -7,7 +7,7 @@ use Rattle.rf_log.specs.declared.line.LogLine.{LogLine}
 use Rattle.rf_log.specs.Case.{Case}
 use Rattle.rf_log.specs.Solved.{Ending, IsStarted, IsSolved}
 use Rattle.rf_search.specs.State.{AreStarted}
-use Rattle.rf_search.specs.Out.{Leads, none, and_then, LeadsToFailed}
+use Rattle.rf_search.specs.Out.{Leads, and_then, LeadsToFailed}
 
 one_more : (lines : List LogLine) (i : ℕ) (x : LogLine) → i < length lines → x ≡ get_or lines i x → take (i + 1) lines ≡ take i lines ++ x ∷ []
 one_more lines i x low is = take_more lines i x low ∙ ap (λ (y : LogLine). take i lines ++ y ∷ []) (sym is)

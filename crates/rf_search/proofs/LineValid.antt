@@ -1,6 +1,6 @@
 -- The nogood line of a trail is valid in the log.
-use Rattle.std.proofs.Common.{◌≡◌, ℕ, zero, suc, ◌+◌, ◌<◌, ◌≤◌, ◌==◌, List, [], ◌∷◌, ◌++◌, length, Bool, true, false, not, ◌&&◌, ◌||◌, refl, sym, ◌∙◌, ap, subst, arith, ◌⊎◌, inl, inr, slice_index, take, map}
-use Rattle.std.specs.Prelude.{Option, Some, None, if◌then◌else◌, is_some, nat_lt, nat_le, nat_eq, slice_index_or}
+use Rattle.std.proofs.Common.{◌≡◌, ℕ, zero, suc, ◌+◌, ◌<◌, ◌≤◌, List, [], ◌∷◌, ◌++◌, length, Bool, true, false, not, ◌&&◌, refl, sym, ◌∙◌, ap, subst, arith, inl, inr, slice_index, take}
+use Rattle.std.specs.Prelude.{Option, Some, None, is_some, nat_lt, nat_le, slice_index_or}
 use Rattle.std.specs.List.{list_all}
 use Rattle.std.proofs.lemmas.Bool.{cases_Bool, and_parts, and_from, true≢false, lt-ltb, le-leb}
 use Rattle.std.proofs.lemmas.List.{length-map}
@@ -13,9 +13,9 @@ use Rattle.rf_log.specs.declared.verdict.Cause.{Cause}
 use Rattle.rf_log.specs.declared.verdict.Cause.TheVariants as cause
 use Rattle.rf_terms.specs.Kinds.{roles_of}
 use Rattle.rf_log.specs.Case.{Case, counts_of, count_of, is_instance}
-use Rattle.rf_log.specs.Box.{Box, between, box_of, is_dead, without}
-use Rattle.rf_log.specs.Hints.{Line, line_at, by_line, nogood_at, is_ruled_out, effect_of, after_hints_of, box_after, is_dead_after}
-use Rattle.rf_log.specs.Walk.{unless, cause_of, knows_cond, knows_hint, fits, fits_cond, fits_hint, finds_line, knows_names, fits_indices, finds_lines, hints_work, ends_empty}
+use Rattle.rf_log.specs.Box.{Box, is_dead}
+use Rattle.rf_log.specs.Hints.{Line, line_at, by_line, nogood_at, is_ruled_out, effect_of, box_after, is_dead_after}
+use Rattle.rf_log.specs.Walk.{unless, cause_of, knows_cond, knows_hint, fits, fits_cond, fits_hint, finds_line, knows_names, fits_indices, finds_lines}
 use Rattle.rf_log.proofs.Kept.{some_when}
 use Rattle.rf_domain.specs.Sets as sets
 use Rattle.rf_trail.specs.declared.entry.Entry.{Entry}
@@ -26,7 +26,7 @@ use Rattle.rf_search.proofs.Sizes.{size_is}
 use Rattle.rf_search.proofs.WholeTrail.{hints_decided, whole_trail}
 use Rattle.rf_search.proofs.Pushed.{up-valid}
 use Rattle.rf_log.specs.Relations.{members, IsEmptied}
-use Rattle.rf_log.specs.Box.{is_met_by, has_none, each_below}
+use Rattle.rf_log.specs.Box.{has_none, each_below}
 use Rattle.rf_log.specs.Hints.{conds_in}
 use Rattle.rf_log.proofs.Kept.{each_below-at, each_below-from}
 use Rattle.rf_log.proofs.Instances.{counts_length, known_roles}

@@ -1,6 +1,6 @@
 -- The steps of a search: a branching, a closed side, and going back to a mark.
-use Rattle.std.proofs.Common.{◌≡◌, ℕ, zero, suc, ◌+◌, ◌-◌, ◌<◌, ◌≤◌, ◌==◌, List, [], ◌∷◌, ◌++◌, length, drop, Bool, true, false, not, ◌&&◌, ◌||◌, refl, sym, ◌∙◌, ap, subst, arith, ◌⊎◌, inl, inr, length-append}
-use Rattle.std.specs.Prelude.{Option, Some, None, if◌then◌else◌, nat_lt, slice_index_or, Contains, IsTrue}
+use Rattle.std.proofs.Common.{◌≡◌, ℕ, zero, suc, ◌+◌, ◌-◌, ◌<◌, ◌≤◌, ◌==◌, List, [], ◌∷◌, ◌++◌, length, drop, Bool, true, false, not, refl, sym, ◌∙◌, ap, subst, arith, inl, inr, length-append}
+use Rattle.std.specs.Prelude.{Option, Some, None, if◌then◌else◌, nat_lt, slice_index_or, Contains}
 use Rattle.std.specs.List.{count_by, list_all}
 use Rattle.std.proofs.lemmas.Bool.{cases_Bool, cases_lt, cases_eq, eqb-true, not_from_false, and_parts, and_from, true≢false, lt-ltb, ltb-true, eq-eqb}
 use Rattle.std.proofs.lemmas.List.{take_all, take-append-le}
@@ -14,11 +14,9 @@ use Rattle.rf_log.specs.declared.line.LogLine.{LogLine}
 use Rattle.rf_log.specs.declared.line.LogLine.TheVariants.{Nogood, Branch, Up}
 use Rattle.rf_log.specs.declared.verdict.Cause.{Cause}
 use Rattle.rf_log.specs.declared.verdict.Cause.TheVariants as cause
-use Rattle.rf_log.specs.declared.verdict.Verdict.TheVariants as verdict
 use Rattle.rf_log.specs.Case.{Case, counts_of, count_of}
 use Rattle.rf_log.specs.Box.{Box, is_met, is_met_by, box_of, is_dead, each_below, has_none, between}
-use Rattle.rf_log.specs.Relations.{members, Meets}
-use Rattle.rf_log.specs.Closure.{Closure}
+use Rattle.rf_log.specs.Relations.{members}
 use Rattle.rf_log.specs.Hints.{Line}
 use Rattle.rf_log.specs.Walk.{Tree, unless, cause_of, left_side, right_side, turned, tree_after, is_branch, verdict_at_end, verdict_of}
 use Rattle.rf_log.specs.Solved.{tree_from, is_nogood, IsHonest, IsHonestLine, IsStarted, IsSolved, refuted}

@@ -1,16 +1,13 @@
 -- Taking back decisions, and turning a left side.
-use Rattle.std.proofs.Common.{◌≡◌, ℕ, ◌+◌, ◌-◌, ◌<◌, ◌≤◌, List, [], ◌∷◌, ◌++◌, length, drop, reverse, map, Bool, true, false, not, refl, sym, ◌∙◌, ap, subst, arith}
-use Rattle.std.specs.Prelude.{Option, Some, None, if◌then◌else◌}
+use Rattle.std.proofs.Common.{◌≡◌, ℕ, ◌+◌, ◌-◌, ◌<◌, List, [], ◌∷◌, ◌++◌, length, drop, reverse, Bool, true, false, refl, sym, ◌∙◌, ap, subst, arith}
+use Rattle.std.specs.Prelude.{Some, if◌then◌else◌}
 use Rattle.std.proofs.lemmas.List.{reverse-append, length-reverse}
-use Rattle.rf_log.specs.declared.cond.Cond.{Cond}
 use Rattle.rf_log.specs.Case.{Case, counts_of}
-use Rattle.rf_log.specs.Box.{is_dead}
-use Rattle.rf_log.specs.Walk.{Tree, turned, right_side}
+use Rattle.rf_log.specs.Walk.{turned, right_side}
 use Rattle.rf_domain.specs.Sets as sets
-use Rattle.rf_trail.specs.declared.entry.Entry.{Entry}
-use Rattle.rf_trail.specs.Trace.{Trace, has_of, decided}
+use Rattle.rf_trail.specs.Trace.{Trace, decided}
 use Rattle.rf_search.specs.declared.level.Level.{Level}
-use Rattle.rf_search.specs.State.{Marked, decide, path_of, right_level, IsMarked, IsSplit, IsBefore, IsTurned}
+use Rattle.rf_search.specs.State.{Marked, decide, path_of, right_level, IsMarked, IsBefore, IsTurned}
 use Rattle.rf_search.proofs.Steps.{undone, right_lives}
 
 -- the last of the code's order is the first of the specification's

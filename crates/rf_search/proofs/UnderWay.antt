@@ -1,9 +1,8 @@
 -- The turns of a search keep what a search owes.
 use Rattle.std.proofs.Common.{◌≡◌, ℕ, ◌+◌, ◌*◌, ◌-◌, ◌<◌, ◌≤◌, List, [], ◌∷◌, ◌++◌, length, reverse, Bool, true, false, refl, sym, ◌∙◌, ap, subst, arith, ◌⊎◌, inl, inr, slice_index}
-use Rattle.std.specs.Prelude.{All, Option, Some, None, Result, Ok, if◌then◌else◌, IsTrue}
+use Rattle.std.specs.Prelude.{All, Option, Some, None, Result, Ok, IsTrue}
 use Rattle.std.specs.List.{count_by}
 use Rattle.std.proofs.lemmas.List.{take_all}
-use Rattle.std.proofs.lemmas.Bool.{cases_Bool, le-leb, leb-true, and_from}
 use Rattle.rf_base.specs.declared.outside.NoMemory.{NoMemory}
 use Rattle.rf_terms.specs.declared.kind.Kind.{Kind}
 use Rattle.rf_log.specs.declared.cond.Cond.{Cond}
@@ -14,7 +13,7 @@ use Rattle.rf_log.specs.declared.line.Cut.TheVariants.{Fix}
 use Rattle.rf_log.specs.Case.{Case, counts_of, count_of}
 use Rattle.rf_log.specs.Box.{Box, box_of, is_dead, is_met, between}
 use Rattle.rf_log.specs.Hints.{Line, line_at, nogood_at, after_hints_of, is_dead_after}
-use Rattle.rf_log.specs.Relations.{members, IsEmptied, IsLiving}
+use Rattle.rf_log.specs.Relations.{members, IsEmptied}
 use Rattle.rf_log.specs.Walk.{cause_of, left_side, turned, is_branch}
 use Rattle.rf_log.specs.Solved.{Ending, IsStarted, IsSolved, IsHonest, is_nogood, planned, refuted, spent}
 use Rattle.rf_log.proofs.Instances.{counts_length}
@@ -44,7 +43,7 @@ use Rattle.rf_search.proofs.Sizes.{size_is}
 use Rattle.rf_search.proofs.WholeTrail.{rest_is, late, whole_trail}
 use Rattle.rf_search.proofs.LineValid.{Agrees, conds_known, hints_known, line_valid, names_line, dead_from}
 use Rattle.rf_search.proofs.Steps.{marked-grown, marked-on, turned-lefts, lefts-cons, count-push, on_path, honest_from, branch_step, close_step, close_last, decide_lives, living_not_dead}
-use Rattle.rf_search.proofs.Endings.{AreSole, ends_in_plan, ends_spent}
+use Rattle.rf_search.proofs.Endings.{ends_in_plan, ends_spent}
 use Rattle.rf_search.proofs.Turning.{last_is}
 
 replay_start : (case : Case) (found : ℕ → Option (List Cond)) (now : List Entry) → Extends case [] [] now

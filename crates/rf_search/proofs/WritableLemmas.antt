@@ -1,6 +1,6 @@
 -- Each line of a search has a text.
-use Rattle.std.proofs.Common.{◌≡◌, ℕ, zero, suc, ◌+◌, ◌<◌, ◌≤◌, List, [], ◌∷◌, ◌++◌, length, take, get_or, Bool, true, refl, sym, ◌∙◌, ap, subst, arith, slice_index}
-use Rattle.std.specs.Prelude.{All, Option, Some, None, nat_lt, nat_le, slice_index_or}
+use Rattle.std.proofs.Common.{◌≡◌, ℕ, zero, suc, ◌<◌, ◌≤◌, List, [], ◌∷◌, ◌++◌, length, take, get_or, true, sym, subst, arith, slice_index}
+use Rattle.std.specs.Prelude.{All, Option, Some, nat_lt, nat_le}
 use Rattle.std.specs.List.{list_all}
 use Rattle.std.proofs.lemmas.Bool.{and_parts, ltb-true, leb-true}
 use Rattle.std.proofs.lemmas.List.Elements.{All-nil, All-cons, All-push, All-get_or}
@@ -11,8 +11,7 @@ use Rattle.rf_log.specs.declared.hint.Hint.TheVariants.{Earlier, Ban, Rule}
 use Rattle.rf_log.specs.declared.line.LogLine.{LogLine}
 use Rattle.rf_log.specs.declared.line.LogLine.TheVariants.{Nogood, Branch, Up}
 use Rattle.rf_log.specs.Case.{Case, counts_of, is_instance}
-use Rattle.rf_log.specs.Box.{Box}
-use Rattle.rf_log.specs.Hints.{Line, line_at, is_ruled_out, effect_of}
+use Rattle.rf_log.specs.Hints.{line_at, is_ruled_out, effect_of}
 use Rattle.rf_log.proofs.Kept.{some_when}
 use Rattle.rf_log.proofs.Instances.{counts_length, known_roles}
 use Rattle.rf_domain.specs.declared.limits.TheConstants.{INDEX_LIMIT}
@@ -21,7 +20,7 @@ use Rattle.rf_trail.specs.declared.entry.Entry.{Entry}
 use Rattle.rf_trail.specs.Trace.{has_of}
 use Rattle.rf_propagate.specs.Laws.{IsJustified, IsOwn}
 use Rattle.rf_search.specs.declared.limits.TheConstants.{MAX_NUMBER}
-use Rattle.rf_search.specs.Out.{IsShort, IsCondOf, IsHintOf, IsWritable}
+use Rattle.rf_search.specs.Out.{IsCondOf, IsHintOf, IsWritable}
 use Rattle.rf_search.specs.Paths.{Grown, start, decide, because, hints_of, hint_in, IsLineOf}
 use Rattle.rf_search.proofs.LineValid.{past_size}
 use Rattle.rf_search.proofs.WholeTrail.{hints_decided}

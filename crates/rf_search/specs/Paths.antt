@@ -1,5 +1,5 @@
 -- A trail as the decisions of a path with the justified removals between them, and the log line that it gives.
-use Rattle.std.specs.Prelude.{◌≡◌, ℕ, ◌<◌, ◌≤◌, ◌+◌, List, [], ◌∷◌, ◌++◌, Option, Some, None, Bool, true, length, reverse}
+use Rattle.std.specs.Prelude.{◌≡◌, ◌<◌, ◌≤◌, List, [], ◌∷◌, ◌++◌, Option, Some, None}
 use Rattle.rf_log.specs.declared.cond.Cond.{Cond}
 use Rattle.rf_log.specs.declared.hint.Hint.{Hint}
 use Rattle.rf_log.specs.declared.line.LogLine.{LogLine}
@@ -8,7 +8,7 @@ use Rattle.rf_log.specs.Case.{Case, counts_of}
 use Rattle.rf_log.specs.Hints.{Line}
 use Rattle.rf_domain.specs.Sets.{size_of}
 use Rattle.rf_trail.specs.declared.entry.Entry.{Entry}
-use Rattle.rf_trail.specs.Trace.{has_of, decided}
+use Rattle.rf_trail.specs.Trace.{decided}
 use Rattle.rf_propagate.specs.Laws.{IsJustified}
 
 -- the entries (the newest first) are the decisions of the path (the last one first), and justified ones

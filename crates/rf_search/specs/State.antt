@@ -1,5 +1,5 @@
 -- Where a search stands: the log so far, the path of decisions, and the trail with a mark before each decision.
-use Rattle.std.specs.Prelude.{◌≡◌, ℕ, ◌+◌, ◌*◌, ◌-◌, ◌<◌, ◌≤◌, ◌⊎◌, List, [], ◌∷◌, ◌++◌, Option, Some, None, Bool, true, false, length, map, reverse, take, All}
+use Rattle.std.specs.Prelude.{◌≡◌, ℕ, ◌+◌, ◌*◌, ◌-◌, ◌<◌, ◌≤◌, ◌⊎◌, List, [], ◌∷◌, ◌++◌, Option, Some, true, false, length, map, reverse, take, All}
 use Rattle.std.specs.List.{count_by}
 use Rattle.rf_log.specs.declared.cond.Cond.{Cond}
 use Rattle.rf_log.specs.declared.line.LogLine.{LogLine}

@@ -8,13 +8,15 @@ mod laws;
 mod level;
 mod limits;
 mod out;
+mod problem;
 mod run;
 mod search;
-mod solve;
+mod solving;
 mod turn;
 
 pub use answer::Answer;
 pub use laws::{budget_is_enough, decided_is_not_spent};
 pub use limits::{MAX_BUDGET, MAX_NUMBER};
 pub use out::{LogFail, LogOut};
-pub use solve::{SolveFault, solve_by};
+pub use problem::solve;
+pub use solving::{SolveFault, solve_by};

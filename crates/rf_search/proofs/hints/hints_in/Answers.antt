@@ -1,4 +1,4 @@
-use Rattle.std.proofs.Common.{rules, ◌≡◌, ℕ, List, ◌-◌, ◌++◌, [], ◌∷◌, length, drop, ap, sym, ◌∙◌, arith}
+use Rattle.std.proofs.Common.{rules, ◌≡◌, List, ◌-◌, ◌++◌, [], ◌∷◌, length, drop, ap, sym, ◌∙◌, arith}
 use Rattle.std.proofs.lemmas.List.{append-nil}
 use Rattle.rf_log.specs.declared.hint.Hint.{Hint}
 use Rattle.rf_search.specs.Paths.{hints_of, hint_in}

@@ -1,5 +1,4 @@
-use Rattle.std.proofs.Common.{◌≡◌, ◌∙◌, ap, sym, subst, List}
-use Rattle.rf_terms.specs.declared.kind.Kind.{Kind}
+use Rattle.std.proofs.Common.{ap}
 use Rattle.rf_search.proofs.UnderWay.{settled_on, replayed_on, at_rest, path_on, alone_on, whole_on}
 use Rattle.rf_search.proofs.run.settle.Goals as goal
 

@@ -1,6 +1,5 @@
-use Rattle.std.proofs.Common.{◌≡◌, ◌<◌, ◌∙◌, ℕ, List, refl, sym, ap, subst, arith}
+use Rattle.std.proofs.Common.{◌∙◌, refl, ap}
 use Rattle.rf_log.specs.Walk.{turned}
-use Rattle.rf_domain.specs.Sets.{size_of}
 use Rattle.rf_search.specs.State.{path_of}
 use Rattle.rf_search.proofs.Turning.{turned_on, turned_from, fewer_levels, in_trail_range}
 use Rattle.rf_search.proofs.turn.turn.Goals as goal

@@ -3,7 +3,7 @@ use Rattle.std.specs.Prelude.{Err}
 use Rattle.rf_search.specs.Out.{none, IsWritable}
 use Rattle.rf_search.proofs.WritableLemmas.{item_at}
 use Rattle.rf_search.proofs.Handing.{leads_more, leads_failed}
-use Rattle.rf_search.proofs.solve.hand_out.Goals as goal
+use Rattle.rf_search.proofs.solving.hand_out.Goals as goal
 
 pub loop-line-init : goal.loop-line-init
 loop-line-init g c = record { leads = none; later = omega arith; carriers = refl }

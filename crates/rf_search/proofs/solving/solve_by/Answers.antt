@@ -4,7 +4,7 @@ use Rattle.std.proofs.Common.{List, ℕ, length, subst, sym, [], ◌∙◌}
 use Rattle.rf_search.specs.Out.{none, IsWritable}
 use Rattle.rf_search.proofs.UnderWay.{started_none, owed}
 use Rattle.rf_search.proofs.Handing.{part_failed, err_same}
-use Rattle.rf_search.proofs.solve.solve_by.Goals as goal
+use Rattle.rf_search.proofs.solving.solve_by.Goals as goal
 
 pub returns-in_default-clause-memory : goal.returns-in_default-clause-memory
 returns-in_default-clause-memory g c = λ is. ([], none, started_none _ _)

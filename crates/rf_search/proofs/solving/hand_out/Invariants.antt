@@ -1,6 +1,6 @@
 use Rattle.std.proofs.Common.{◌≡◌, ◌≤◌, take}
 use Rattle.rf_search.specs.Out.{Leads}
-use Rattle.rf_search.proofs.solve.hand_out.Given as goal
+use Rattle.rf_search.proofs.solving.hand_out.Given as goal
 
 abbrev pub invariant-loop-line : goal.invariant-loop-line
 invariant-loop-line g l = record {
