@@ -57,7 +57,10 @@ fn lines_are_written(rt: HostRuntime) -> Result<(), Fail> {
         carrier: 0,
         at: 0,
     };
-    assert_eq!(rt; line_text(alloc, &fix, &names)?.as_slice(), b"b fix a 0\n".as_slice());
+    assert_eq!(rt;
+        line_text(alloc, &fix, &names)?.as_slice(),
+        b"b fix a 0\n".as_slice()
+    );
     let split = LogLine::Branch {
         cut: Cut::Split,
         carrier: 1,
@@ -68,12 +71,18 @@ fn lines_are_written(rt: HostRuntime) -> Result<(), Fail> {
         b"b split b 999999999\n".as_slice()
     );
     let up = LogLine::Up { line: 4 };
-    assert_eq!(rt; line_text(alloc, &up, &names)?.as_slice(), b"u 4\n".as_slice());
+    assert_eq!(rt;
+        line_text(alloc, &up, &names)?.as_slice(),
+        b"u 4\n".as_slice()
+    );
     let nogood = LogLine::Nogood {
         conds: Conds::new(alloc),
         hints: Items::from_vec(Vec::new(alloc)),
     };
-    assert_eq!(rt; line_text(alloc, &nogood, &names)?.as_slice(), b"n ;\n".as_slice());
+    assert_eq!(rt;
+        line_text(alloc, &nogood, &names)?.as_slice(),
+        b"n ;\n".as_slice()
+    );
     Ok(())
 }
 
