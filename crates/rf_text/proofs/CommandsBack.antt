@@ -6,7 +6,7 @@ use Rattle.rf_base.specs.Decimal.{number_of}
 use Rattle.rf_show.specs.declared.edit.Edit.{Edit}
 use Rattle.rf_show.specs.declared.edit.Edit.TheVariants as edit
 use Rattle.rf_text.specs.declared.command.Command.{Command}
-use Rattle.rf_text.specs.declared.command.Command.TheVariants.{Change, Profiles, Scan, Undo, Redo, Report, Csv, Show, Free, Products, Quit}
+use Rattle.rf_text.specs.declared.command.Command.TheVariants.{Change, Profiles, Scan, Undo, Redo, Report, Csv, Show, Free, Products, Solve, Place, Quit}
 use Rattle.rf_text.specs.Words.{is_word}
 use Rattle.rf_text.specs.Operands.{many}
 use Rattle.rf_text.specs.Edits.{edit_by, exclusion_by, setup_by}
@@ -116,6 +116,8 @@ said_back (Products lo hi) h =
     let a = number_back lo h.0 in
     let b = number_back hi h.1 in
     record { read = rw (a.read, b.read) refl; valid = rw (a.valid, b.valid) refl }
+said_back (Solve budget) h = let n = number_back budget h in record { read = rw n.read refl; valid = rw n.valid refl }
+said_back (Place budget) h = let n = number_back budget h in record { read = rw n.read refl; valid = rw n.valid refl }
 said_back Quit h = record { read = refl; valid = refl }
 
 line_back : (words : List (List ℕ)) (command : Command) → list_all is_word words ≡ true → command_with words ≡ Some command → command_of (joined words) ≡ Ok command

@@ -10,7 +10,7 @@ use Rattle.rf_show.specs.declared.edit.Edit.{Edit}
 use Rattle.rf_show.specs.declared.edit.Edit.TheVariants as edit
 use Rattle.rf_show.specs.After.{is_edit}
 use Rattle.rf_text.specs.declared.command.Command.{Command}
-use Rattle.rf_text.specs.declared.command.Command.TheVariants.{Change, Profiles, Scan, Undo, Redo, Report, Csv, Show, Free, Products, Quit}
+use Rattle.rf_text.specs.declared.command.Command.TheVariants.{Change, Profiles, Scan, Undo, Redo, Report, Csv, Show, Free, Products, Solve, Place, Quit}
 use Rattle.rf_text.specs.declared.command.UnknownLine.{UnknownLine}
 use Rattle.rf_text.specs.declared.verb.Verb.{Verb}
 use Rattle.rf_text.specs.declared.verb.Verb.TheVariants as verb
@@ -73,6 +73,8 @@ IsSaid Csv = Unit {0}
 IsSaid Show = Unit {0}
 IsSaid (Free name) = IsNamed name
 IsSaid (Products lo hi) = IsShort lo × IsShort hi
+IsSaid (Solve budget) = IsShort budget
+IsSaid (Place budget) = IsShort budget
 IsSaid Quit = Unit {0}
 
 if_then : {A B : Type 0} (next : A → Option B) (P : A → Type 0) (Q : B → Type 0) (o : Option A) → IfSome o P → ((x : A) → P x → IfSome (next x) Q) → IfSome (o >>= next) Q
@@ -196,6 +198,8 @@ command_said verb.Csv words = bare_said Csv tt words
 command_said verb.Show words = bare_said Show tt words
 command_said verb.Free words = if_map (λ name. Free name) IsSaid _ (one_name words)
 command_said verb.Products words = if_map (λ w. Products w.0 w.1) IsSaid _ (if_two number_of number_of IsShort IsShort number_read number_read words)
+command_said verb.Solve words = if_map (λ budget. Solve budget) IsSaid _ (one_number words)
+command_said verb.Place words = if_map (λ budget. Place budget) IsSaid _ (one_number words)
 command_said verb.Quit words = bare_said Quit tt words
 command_said v words = if_map Change IsSaid (edit_by v words) (edit_said v words)
 

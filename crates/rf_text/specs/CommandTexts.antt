@@ -1,7 +1,7 @@
 -- How a command is written.
 use Rattle.std.specs.Prelude.{◌≡◌, ℕ, List, [], ◌∷◌, Ok, decimal}
 use Rattle.rf_text.specs.declared.command.Command.{Command}
-use Rattle.rf_text.specs.declared.command.Command.TheVariants.{Change, Profiles, Scan, Undo, Redo, Report, Csv, Show, Free, Products, Quit}
+use Rattle.rf_text.specs.declared.command.Command.TheVariants.{Change, Profiles, Scan, Undo, Redo, Report, Csv, Show, Free, Products, Solve, Place, Quit}
 use Rattle.rf_text.specs.declared.verb.Verb.TheVariants as verb
 use Rattle.rf_text.specs.Commands.{command_of}
 use Rattle.rf_text.specs.Decimals.{decimal_text}
@@ -23,6 +23,8 @@ command_words Csv = text_of verb.Csv ∷ []
 command_words Show = text_of verb.Show ∷ []
 command_words (Free name) = text_of verb.Free ∷ name ∷ []
 command_words (Products lo hi) = text_of verb.Products ∷ decimal lo ∷ decimal hi ∷ []
+command_words (Solve budget) = text_of verb.Solve ∷ decimal budget ∷ []
+command_words (Place budget) = text_of verb.Place ∷ decimal budget ∷ []
 command_words Quit = text_of verb.Quit ∷ []
 
 -- the line of a command, without its line feed

@@ -5,7 +5,7 @@ use Rattle.rf_base.specs.FileName.{file_name_of}
 use Rattle.rf_base.specs.Name.{name_of}
 use Rattle.rf_show.specs.After.{is_edit}
 use Rattle.rf_text.specs.declared.command.Command.{Command}
-use Rattle.rf_text.specs.declared.command.Command.TheVariants.{Change, Profiles, Scan, Undo, Redo, Report, Csv, Show, Free, Products, Quit}
+use Rattle.rf_text.specs.declared.command.Command.TheVariants.{Change, Profiles, Scan, Undo, Redo, Report, Csv, Show, Free, Products, Solve, Place, Quit}
 use Rattle.rf_text.specs.declared.command.UnknownLine.{UnknownLine}
 use Rattle.rf_text.specs.declared.verb.Verb.{Verb}
 use Rattle.rf_text.specs.declared.verb.Verb.TheVariants as verb
@@ -36,6 +36,8 @@ command_by verb.Csv words = bare Csv words
 command_by verb.Show words = bare Show words
 command_by verb.Free words = option_map (λ name. Free name) (one name_of words)
 command_by verb.Products words = option_map (λ w. Products w.0 w.1) (two number_of number_of words)
+command_by verb.Solve words = option_map (λ budget. Solve budget) (one number_of words)
+command_by verb.Place words = option_map (λ budget. Place budget) (one number_of words)
 command_by verb.Quit words = bare Quit words
 command_by verb words = option_map Change (edit_by verb words)
 

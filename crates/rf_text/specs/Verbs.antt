@@ -8,7 +8,7 @@ abbrev pub verbs : List Verb
 verbs = verb.Profile ∷ verb.Range ∷ verb.DropProfile ∷ verb.Zone ∷ verb.Couple ∷ verb.Uncouple ∷ verb.Carrier ∷ verb.Remove
     ∷ verb.Time ∷ verb.Always ∷ verb.Set ∷ verb.Clear ∷ verb.Lock ∷ verb.Unlock ∷ verb.Ban ∷ verb.Unban
     ∷ verb.Scan ∷ verb.Unscan ∷ verb.Profiles ∷ verb.Undo ∷ verb.Redo ∷ verb.Report ∷ verb.Csv ∷ verb.Show
-    ∷ verb.Free ∷ verb.Products ∷ verb.Quit ∷ []
+    ∷ verb.Free ∷ verb.Products ∷ verb.Solve ∷ verb.Place ∷ verb.Quit ∷ []
 
 -- how a verb is written
 abbrev pub text_of : Verb → List ℕ
@@ -38,6 +38,8 @@ text_of verb.Csv = codes "csv"
 text_of verb.Show = codes "show"
 text_of verb.Free = codes "free"
 text_of verb.Products = codes "products"
+text_of verb.Solve = codes "solve"
+text_of verb.Place = codes "place"
 text_of verb.Quit = codes "quit"
 
 -- the verb that a word writes

@@ -45,6 +45,14 @@ pub enum Command {
         lo: u32,
         hi: u32,
     },
+    /// Searches for a plan with at most so many branchings, and writes the log of the search and its verdict.
+    Solve {
+        budget: u32,
+    },
+    /// The same, and a plan is applied as one edit.
+    Place {
+        budget: u32,
+    },
     /// The end of the session.
     Quit,
 }
@@ -96,6 +104,14 @@ fn command_by(verb: Verb, operands: Words<'_>) -> Option<Command>
         Verb::Products => {
             let (lo, hi) = two(operands)?;
             Some(Command::Products { lo, hi })
+        }
+        Verb::Solve => {
+            let budget = one(operands)?;
+            Some(Command::Solve { budget })
+        }
+        Verb::Place => {
+            let budget = one(operands)?;
+            Some(Command::Place { budget })
         }
         Verb::Quit => operands.is_empty().then_some(Command::Quit),
         _ => Some(Command::Change(edit_by(verb, operands)?)),

@@ -49,6 +49,8 @@ fn lines_of_no_command(rt: HostRuntime) -> Result<(), Fail> {
         b"scan s.csv main .5 1 comma".as_slice(),
         b"profiles".as_slice(),
         b"products 500000".as_slice(),
+        b"solve 1 2".as_slice(),
+        b"place x".as_slice(),
     ] {
         assert!(rt; matches!(read_command(line), Err(UnknownLine)), "{line:?}");
     }
@@ -176,6 +178,8 @@ fn lines_written_again(rt: HostRuntime) -> Result<(), Fail> {
         ("unscan 16", "unscan 16"),
         ("profiles p.toml", "profiles p.toml"),
         ("products 500700 500900", "products 500700 500900"),
+        ("solve 0", "solve 0"),
+        ("place 20000", "place 20000"),
         ("scan s.csv main -80 1 comma", "scan s.csv main -80 1 comma"),
         (
             "scan a;b main +070.2500 0 semicolon",

@@ -30,10 +30,12 @@ pub(crate) enum Verb {
     Show,
     Free,
     Products,
+    Solve,
+    Place,
     Quit,
 }
 
-static VERBS: [Verb; 27] = [
+static VERBS: [Verb; 29] = [
     Verb::Profile,
     Verb::Range,
     Verb::DropProfile,
@@ -60,6 +62,8 @@ static VERBS: [Verb; 27] = [
     Verb::Show,
     Verb::Free,
     Verb::Products,
+    Verb::Solve,
+    Verb::Place,
     Verb::Quit,
 ];
 
@@ -95,6 +99,8 @@ impl Verb {
             Verb::Show => "show",
             Verb::Free => "free",
             Verb::Products => "products",
+            Verb::Solve => "solve",
+            Verb::Place => "place",
             Verb::Quit => "quit",
         }
     }

@@ -52,6 +52,8 @@ pub(crate) fn write_command(text: &mut String, command: &Command) -> Result<(), 
         Command::Show => write_verb(text, Verb::Show),
         Command::Free { name } => write_named(text, Verb::Free, name),
         Command::Products { lo, hi } => write_numbered(text, Verb::Products, &[*lo, *hi]),
+        Command::Solve { budget } => write_numbered(text, Verb::Solve, &[*budget]),
+        Command::Place { budget } => write_numbered(text, Verb::Place, &[*budget]),
         Command::Quit => write_verb(text, Verb::Quit),
     }
 }
