@@ -73,11 +73,18 @@ command_fault old name (command.Profiles file) got asks h = profiles_fault old n
 command_fault old name (command.Scan file zone threshold width sep) got asks h = scan_fault old name file zone threshold width sep got h ∙ asks
 command_fault old name _ got asks h = absurd (false≢true asks)
 
+does_fault : (old new : History) (name : List ℕ) (c : Command) (fetched : Fetched) (reply : Reply) → Obeys old (Ok c) fetched reply new →
+    is_file name (file_of c) ≡ true → is_shelf_fault reply ≡ true → fails_at name fetched ≡ true
+does_fault old new name (command.Profiles file) fetched reply (got, brought, says, goes) asks h =
+    rw brought (command_fault old name (command.Profiles file) got asks (rw says at h))
+does_fault old new name (command.Scan file zone threshold width sep) fetched reply (got, brought, says, goes) asks h =
+    rw brought (command_fault old name (command.Scan file zone threshold width sep) got asks (rw says at h))
+does_fault old new name _ fetched reply obeys asks h = absurd (false≢true asks)
+
 said_fault : (old new : History) (name : List ℕ) (said : Result Command UnknownLine) (fetched : Fetched) (reply : Reply) → Obeys old said fetched reply new →
     asks_of name said ≡ true → is_shelf_fault reply ≡ true → fails_at name fetched ≡ true
 said_fault old new name (Err unknown) fetched reply obeys asks h = absurd (false≢true asks)
-said_fault old new name (Ok c) fetched reply (got, brought, says, goes) asks h =
-    rw brought (command_fault old name c got asks (rw says at h))
+said_fault old new name (Ok c) fetched reply obeys asks h = does_fault old new name c fetched reply obeys asks h
 
 step_fault : (old new : History) (name : List ℕ) (line : Line) (fetched : Fetched) (reply : Reply) → Step Steps old line fetched reply new →
     (names name line && is_shelf_fault reply) ≡ true → fails_at name fetched ≡ true

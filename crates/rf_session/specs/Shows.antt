@@ -4,6 +4,8 @@ use Rattle.rf_base.specs.Khz.{is_khz}
 use Rattle.rf_base.specs.declared.decimal.Decimal.{Decimal}
 use Rattle.rf_exclusions.specs.declared.scan_set.Sep.{Sep}
 use Rattle.rf_profiles.specs.declared.profile.Profile.{Profile}
+use Rattle.rf_log.specs.Solved.{Ending}
+use Rattle.rf_search.specs.declared.limits.TheConstants.{MAX_BUDGET}
 use Rattle.rf_show.specs.Show.{ShowData, is_carrier}
 use Rattle.rf_show.specs.declared.edit.Edit.{Edit}
 use Rattle.rf_show.specs.declared.edit.Edit.TheVariants as edit
@@ -11,6 +13,7 @@ use Rattle.rf_show.specs.declared.refusal.Refusal.{Refusal}
 use Rattle.rf_editor.specs.History.{History, edited_history, undone, redone}
 use Rattle.rf_rules.specs.Analyses.{analysed}
 use Rattle.rf_rules.specs.Products.{listed}
+use Rattle.rf_solving.specs.Solving.{IsSearch, plan_ats}
 use Rattle.rf_text.specs.declared.command.Command.{Command}
 use Rattle.rf_text.specs.declared.command.Command.TheVariants as command
 use Rattle.rf_text.specs.declared.command.UnknownLine.{UnknownLine}
@@ -91,7 +94,18 @@ file_of (command.Profiles file) = Some file
 file_of (command.Scan file zone threshold width sep) = Some file
 file_of _ = None
 
--- What a command comes to, where this came of the file that it names; a command that names none doesn't look at it.
+-- the budget of a search
+abbrev pub within_budget : ℕ → Option ℕ
+within_budget budget = if nat_le budget MAX_BUDGET then Some budget else None
+
+-- the budget of a command that searches; there is none where it is out of its range
+abbrev pub budget_of : Command → Option ℕ
+budget_of (command.Solve budget) = within_budget budget
+budget_of (command.Place budget) = within_budget budget
+budget_of _ = None
+
+-- What a command that doesn't search comes to, where this came of the file that it names; a command that names none doesn't look at
+-- it. A budget out of its range is refused.
 abbrev pub outcome : History → Command → Got → Outcome
 outcome history (command.Change edit) got = edited history edit
 outcome history (command.Profiles file) got = with_profiles history got
@@ -103,13 +117,35 @@ outcome history command.Csv got = told history (Ok (csv_text_of history.show.car
 outcome history command.Show got = told history (Ok (show_text_of history.show))
 outcome history (command.Free name) got = told history (free_at history.show (position (is_carrier name) history.show.carriers))
 outcome history (command.Products lo hi) got = told history (products_at history.show lo hi)
+outcome history (command.Solve budget) got = told history (Err Number)
+outcome history (command.Place budget) got = told history (Err Number)
 outcome history command.Quit got = moved history (Ok history)
+
+-- the history after a plan is applied as one edit
+abbrev pub applied : History → Option (List (Option ℕ)) → History
+applied history (Some ats) = (edited history (edit.Place ats)).history
+applied history None = history
+
+-- the history after a search
+abbrev pub searched : History → Command → Ending → History
+searched history (command.Place budget) ending = applied history (plan_ats history.show ending)
+searched history _ ending = history
+
+-- a search came to this reply, and to this history after it
+abbrev pub Searches : History → Command → ℕ → Reply → History → Type 0
+Searches old command n reply new =
+    (ending : Ending) × (text : List ℕ) × IsSearch old.show n ending text × (reply ≡ Text text) × (new ≡ searched old command ending)
+
+-- what a command comes to, where it searches with this budget or doesn't search
+abbrev pub Does : History → Command → Option ℕ → Fetched → Reply → History → Type 0
+Does old command None fetched reply new =
+    (got : Got) × (fetched ≡ fetch_of (file_of command) got) × (reply ≡ (outcome old command got).reply) × (new ≡ (outcome old command got).history)
+Does old command (Some n) fetched reply new = (fetched ≡ absent) × Searches old command n reply new
 
 -- What the machine does with what a line says. A file that it names is fetched before anything else of it is judged; a fault of
 -- the shelf is answered E11, and nothing else is, so there are as many replies E11 for a name as its fetches that were faults.
 abbrev pub Obeys : History → Result Command UnknownLine → Fetched → Reply → History → Type 0
-Obeys old (Ok command) fetched reply new =
-    (got : Got) × (fetched ≡ fetch_of (file_of command) got) × (reply ≡ (outcome old command got).reply) × (new ≡ (outcome old command got).history)
+Obeys old (Ok command) fetched reply new = Does old command (budget_of command) fetched reply new
 Obeys old (Err unknown) fetched reply new = (fetched ≡ absent) × (reply ≡ Error IsUnknownLine) × (new ≡ old)
 
 -- One step of the show machine: the reply to a line, and the history after it.

@@ -1,11 +1,11 @@
 //! The machine of a session: a show that is edited, and what lines ask of it.
 
-ghost use Rattle.std.specs.Prelude.{◌≡◌, ◌≤◌, ℕ, List, Ok, IfOk, IsTrue, position};
+ghost use Rattle.std.specs.Prelude.{◌≡◌, ◌≤◌, ℕ, List, Ok, IfOk, OnOk, IsTrue, position};
 ghost use Rattle.rf_show.specs.Show.{is_carrier};
 ghost use Rattle.rf_editor.specs.History.{first_history};
 ghost use Rattle.rf_show.specs.After.{is_edit};
 ghost use Rattle.rf_text.specs.Commands.{IsAskable};
-ghost use Rattle.rf_session.specs.Fetches.{fault, got_of, shelf_alone, Obeyed};
+ghost use Rattle.rf_session.specs.Fetches.{absent, fault, got_of, shelf_alone, Obeyed};
 ghost use Rattle.rf_session.specs.Files.{IsSmall};
 ghost use Rattle.rf_session.specs.ScanLines.{scan_command};
 ghost use Rattle.rf_session.specs.Shows as spec;
@@ -17,7 +17,9 @@ use crate::reply::{Code, Reply, say};
 use rf_base::{Decimal, FileName, Items, Khz, Name, NoMemory, Shelf, Sink};
 use rf_editor::{EditFault, Editor, StepFault};
 use rf_exclusions::Sep;
+use rf_search::MAX_BUDGET;
 use rf_show::{Carrier, Edit};
+use rf_solving::{Outcome, solve_show};
 use rf_text::{
     Command, UnknownLine, csv_text, free_text, products_text, read_command, report_text, show_text,
 };
@@ -109,6 +111,8 @@ impl ShowMachine {
             Command::Show => self.show(),
             Command::Free { name } => self.free(name),
             Command::Products { lo, hi } => self.products(lo, hi),
+            Command::Solve { budget } => self.solve(budget),
+            Command::Place { budget } => self.place(budget),
             Command::Quit => Ok(Reply::Accepted),
         }
     }
@@ -222,6 +226,39 @@ impl ShowMachine {
             }
             _ => Ok(Reply::Error(Code::Number)),
         }
+    }
+
+    /// Searches for a plan with at most `budget` branchings.
+    fn solve(&self, budget: u32) -> Result<Reply, NoMemory>
+        ensures { IfOk result (λ reply. spec.Obeys self.now (Ok (Command.Solve budget)) absent reply self.now) }
+    {
+        if budget > MAX_BUDGET {
+            return Ok(Reply::Error(Code::Number));
+        }
+        let outcome = solve_show(self.alloc, self.editor.show(), budget)?;
+        Ok(Reply::Text(outcome.text))
+    }
+
+    /// Searches for a plan with at most `budget` branchings, and applies it as one edit.
+    fn place(&mut self, budget: u32) -> Result<Reply, NoMemory>
+        ensures { IfOk result (λ reply. spec.Obeys self.old (Ok (Command.Place budget)) absent reply self.new) }
+    {
+        if budget > MAX_BUDGET {
+            return Ok(Reply::Error(Code::Number));
+        }
+        let Outcome { text, ats } = solve_show(self.alloc, self.editor.show(), budget)?;
+        self.apply_plan(ats)?;
+        Ok(Reply::Text(text))
+    }
+
+    /// Gives the carriers the frequencies of a plan, where there is one.
+    fn apply_plan(&mut self, ats: Option<Items<Option<Khz>>>) -> Result<(), NoMemory>
+        ensures { OnOk result (self.new ≡ spec.applied self.old ats) }
+    {
+        if let Some(ats) = ats {
+            self.change(Edit::Place { at: ats })?;
+        }
+        Ok(())
     }
 
     /// The allowed channels of a carrier.

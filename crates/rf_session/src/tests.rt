@@ -556,3 +556,53 @@ fn takes_sixty_four_carriers(rt: HostRuntime) -> Result<(), Fail> {
     assert!(rt; outcome.is(Status::Refused, wanted.as_str()));
     Ok(())
 }
+
+#[test]
+fn searches_for_plans(rt: HostRuntime) -> Result<(), Fail> {
+    let alloc = rt.alloc();
+    let two = "profile Q 500000 500300 300 350 0 0 0 0 0\ncarrier a Q main\ncarrier b Q main\n";
+    let far = "profile P 500000 510000 25 350 0 100 50 0 0\ncarrier a P main\n";
+    for (made, asked, oks, wanted) in [
+        ("", "solve 0\n", "", "plan\n"),
+        (two, "solve 0\n", "ok\nok\nok\n", "spent 0\n"),
+        (
+            two,
+            "solve 1\n",
+            "ok\nok\nok\n",
+            "b fix a 0\nn in a 0 0 ; rule spacing a b 2 0 1\nu 2\nn out a 0 0 ; rule spacing a b 2 0 1\nu 4\nrefuted\n",
+        ),
+        (
+            far,
+            "carrier b P main\nset a 500000\nset b 500200\nlock a\nlock b\nsolve 0\n",
+            "ok\nok\nok\nok\nok\nok\nok\n",
+            "n ; ban a 1 400 ban b 0 7 ban b 9 400 rule spacing a b 1 0 21\nu 1\nrefuted\n",
+        ),
+        (
+            far,
+            "set a 500010\nlock a\nsolve 0\n",
+            "ok\nok\nok\nok\n",
+            "n ; ban a 0 400\nu 1\nrefuted\n",
+        ),
+    ] {
+        let script = format!(in alloc; "{made}{asked}")?;
+        let wanted = format!(in alloc; "{oks}{wanted}")?;
+        let outcome = session(alloc, script.as_str())?;
+        assert!(rt; outcome.is(Status::Done, wanted.as_str()));
+    }
+    Ok(())
+}
+
+#[test]
+fn places_a_plan_as_one_edit(rt: HostRuntime) -> Result<(), Fail> {
+    let alloc = rt.alloc();
+    let made =
+        "profile G 500000 501200 400 350 0 100 0 0 0\ncarrier a G main\ncarrier b G main\ncarrier c G main\nset a 500000\nlock a\nset b 500400\nlock b\nset c 500800\n";
+    let asked = "report\nplace 10\nreport\nundo\nreport\nsolve 20001\nplace 20001\n";
+    let script = format!(in alloc; "{made}{asked}")?;
+    let wanted = format!(in alloc;
+        "ok\nok\nok\nok\nok\nok\nok\nok\nok\n{EVEN}plan\nat a 500000\nat b 500400\nat c 501200\nconflicts 0\nok\n{EVEN}error E4\nerror E4\n"
+    )?;
+    let outcome = session(alloc, script.as_str())?;
+    assert!(rt; outcome.is(Status::Refused, wanted.as_str()));
+    Ok(())
+}
