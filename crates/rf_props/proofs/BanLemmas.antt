@@ -14,7 +14,7 @@ use Rattle.rf_propagate.specs.Laws.{IsQuiet}
 use Rattle.rf_props.specs.Sweeps.{left}
 use Rattle.rf_props.specs.Bans.{IsAllowedAt, AreAllowedBelow, IsFirstFlag, IsRunDone}
 use Rattle.rf_props.proofs.StrikeLemmas.{sized_left}
-use Rattle.rf_props.proofs.SweepLemmas.{GoesOn, goes_on, left_earlier, stays}
+use Rattle.rf_props.proofs.KeptLemmas.{GoesOn, goes_on, left_earlier, stays}
 
 -- while flags are looked over
 pub record LooksOver (flags : List Bool) (from : ℕ) (wanted : Bool) (at : ℕ) : Type 0 where

@@ -1,8 +1,8 @@
 -- A list with one element put in.
-use Rattle.std.proofs.Common.{◌≡◌, ◌∙◌, ℕ, zero, suc, ◌+◌, ◌<◌, Bool, true, false, not, List, [], ◌∷◌, length, map, get_or, refl, sym, ap, inl, inr, arith}
+use Rattle.std.proofs.Common.{◌≡◌, ◌∙◌, ℕ, zero, suc, ◌+◌, ◌<◌, Bool, true, false, not, List, [], ◌∷◌, ◌++◌, ◌==◌, ◌⊎◌, length, map, get_or, refl, sym, ap, inl, inr, arith}
 use Rattle.std.specs.Prelude.{insert}
 use Rattle.std.specs.List.{list_all, remove}
-use Rattle.std.proofs.lemmas.Bool.{cases_eq, and_parts, and_from, not-true, true≢false}
+use Rattle.std.proofs.lemmas.Bool.{cases_Bool, cases_eq, and_parts, and_from, not-true, true≢false}
 use Rattle.std.proofs.lemmas.Bool.Decides.{nat_tests}
 use Rattle.rf_log.specs.Case.{is_among, are_distinct}
 
@@ -53,6 +53,43 @@ distinct_insert (y ∷ ys) (suc i) x distinct =
       | inl e ↦ absurd (true≢false (sym (among_inserted ys i x) ∙ ap (is_among (insert ys i x)) (sym e) ∙ apart))
       | inr e ↦ grind (arith, nat_tests)
     ]
+
+among_insert : (xs : List ℕ) (i x y : ℕ) → is_among xs y ≡ true → is_among (insert xs i x) y ≡ true
+among_insert [] zero x y among = grind (arith, nat_tests)
+among_insert [] (suc i) x y among = grind (arith, nat_tests)
+among_insert (z ∷ zs) zero x y among = grind (arith, nat_tests)
+among_insert (z ∷ zs) (suc i) x y among = elim (cases_Bool (z == y)) [
+  | inl here ↦ rw here
+  | inr other ↦
+      let rest : is_among zs y ≡ true = rw other at among in
+      rw other (among_insert zs i x y rest)
+]
+
+-- the others are distinct too
+pub distinct_others : (xs : List ℕ) (i x : ℕ) → are_distinct (insert xs i x) ≡ true → are_distinct xs ≡ true
+distinct_others [] i x distinct = refl
+distinct_others (y ∷ ys) zero x distinct = (and_parts (not (is_among (y ∷ ys) x)) (are_distinct (y ∷ ys)) distinct).1
+distinct_others (y ∷ ys) (suc i) x distinct =
+    let parts = and_parts (not (is_among (insert ys i x) y)) (are_distinct (insert ys i x)) distinct in
+    and_from (not (is_among ys y)) (are_distinct ys) (apart (cases_Bool (is_among ys y)) (not-true _ parts.0)) (distinct_others ys i x parts.1)
+  where
+    apart : (is_among ys y ≡ true) ⊎ (is_among ys y ≡ false) → is_among (insert ys i x) y ≡ false → not (is_among ys y) ≡ true
+    apart (inl among) off = absurd (true≢false (sym (among_insert ys i x y among) ∙ off))
+    apart (inr off) _ = rw off
+
+-- one that stands among the first stands twice
+pub not_distinct : (xs rest : List ℕ) (c : ℕ) → is_among xs c ≡ true → are_distinct ((xs ++ c ∷ []) ++ rest) ≡ true → ⊥
+not_distinct [] rest c none distinct = true≢false (sym none)
+not_distinct (x ∷ xs) rest c among distinct =
+    let parts = and_parts (not (is_among ((xs ++ c ∷ []) ++ rest) x)) (are_distinct ((xs ++ c ∷ []) ++ rest)) distinct in
+    elim (cases_eq x c) [
+      | inl e ↦ true≢false (sym (stands xs rest c) ∙ ap (is_among ((xs ++ c ∷ []) ++ rest)) (sym e) ∙ not-true _ parts.0)
+      | inr e ↦ let later : is_among xs c ≡ true = grind (arith, nat_tests) in not_distinct xs rest c later parts.1
+    ]
+  where
+    stands : (ys rest : List ℕ) (c : ℕ) → is_among ((ys ++ c ∷ []) ++ rest) c ≡ true
+    stands [] rest c = grind (arith, nat_tests)
+    stands (y ∷ ys) rest c = elim (cases_Bool (y == c)) [ inl here ↦ rw here | inr other ↦ rw other (stands ys rest c) ]
 
 pub insert_remove : (xs : List ℕ) (i d : ℕ) → i < length xs → insert (remove xs i) i (get_or xs i d) ≡ xs
 insert_remove [] i d known = absurd (omega arith)

@@ -1,8 +1,8 @@
 -- Instances, and the indices that break them.
-use Rattle.std.proofs.Common.{◌≡◌, ◌∙◌, ℕ, suc, ◌<◌, ◌==◌, Bool, true, false, not, ◌&&◌, ◌||◌, List, [], ◌∷◌, length, map, refl, sym, ap, inl, inr, arith}
+use Rattle.std.proofs.Common.{◌≡◌, ◌∙◌, ℕ, suc, ◌<◌, ◌==◌, Bool, true, false, not, ◌&&◌, ◌||◌, ◌⊎◌, List, [], ◌∷◌, length, map, refl, sym, ap, inl, inr, arith}
 use Rattle.std.specs.Prelude.{All, is_some, insert, pos, unsigned_abs, nat_lt}
 use Rattle.std.specs.List.{list_all}
-use Rattle.std.proofs.lemmas.Bool.{cases_Bool, and_parts, and_from, true≢false, eq-eqb, ltb-true, lt-ltb}
+use Rattle.std.proofs.lemmas.Bool.{cases_Bool, cases_eq, and_parts, and_from, true≢false, eq-eqb, ltb-true, lt-ltb}
 use Rattle.std.proofs.lemmas.Bool.Decides.{nat_tests}
 use Rattle.rf_terms.specs.declared.kind.Kind.{Kind}
 use Rattle.rf_terms.specs.Kinds.{roles_of, coefficients_of}
@@ -93,6 +93,16 @@ ruled_out case has kind others freqs place c lo hi good fixed broken =
   where
     here : (b : Bool) → ((c == c) || b) ≡ true
     here b = let e : (c == c) ≡ true = eq-eqb c c refl in rw e
+
+-- the same for a range of one index
+pub ruled_at : (case : Case) (has : Box) (kind : Kind) (roles : List ℕ) (c k : ℕ) → is_instance case kind roles ≡ true → list_all (λ o. (o == c) || is_some (only_index case has o)) roles ≡ true
+    → breaks case kind roles (indices_with case has c k) ≡ true → is_ruled_out case has kind roles c k k ≡ true
+ruled_at case has kind roles c k good sole broken =
+    and_from _ _ (and_from _ _ good sole) (each_below-from (count_of case c) (λ j. not (between k k j) || breaks case kind roles (indices_with case has c j)) (λ j low. at_j j (cases_eq j k)))
+  where
+    at_j : (j : ℕ) → (j ≡ k) ⊎ (j ≡ k → ⊥) → (not (between k k j) || breaks case kind roles (indices_with case has c j)) ≡ true
+    at_j j (inl e) = outside_or (between k k j) _ (λ inside. ap (λ x. breaks case kind roles (indices_with case has c x)) e ∙ broken)
+    at_j j (inr e) = let out : between k k j ≡ false = grind (arith, nat_tests) in rw out refl
 
 -- what a range of one index says
 ruled_parts : (case : Case) (has : Box) (kind : Kind) (roles : List ℕ) (c k : ℕ) → k < count_of case c → is_ruled_out case has kind roles c k k ≡ true

@@ -6,6 +6,8 @@ pub mod InsertLemmas
 pub mod RoleLemmas
 pub mod StrikeLemmas
 pub mod SingleLemmas
+pub mod KeptLemmas
+pub mod LiveLemmas
 pub mod SweepLemmas
 pub mod SettleLemmas
 pub mod BanLemmas

@@ -1,46 +1,38 @@
 -- When nothing more is struck.
-use Rattle.std.proofs.Common.{◌≡◌, ◌∙◌, ℕ, zero, suc, ◌+◌, ◌<◌, ◌≤◌, ◌==◌, Bool, true, false, not, ◌||◌, ◌⊎◌, List, [], ◌∷◌, length, map, get_or, refl, sym, ap, subst, inl, inr, arith}
+use Rattle.std.proofs.Common.{◌≡◌, ◌∙◌, ℕ, zero, suc, ◌+◌, ◌<◌, ◌≤◌, ◌==◌, true, false, ◌||◌, List, [], ◌∷◌, length, map, get_or, refl, sym, ap, subst, inl, inr, arith}
 use Rattle.std.specs.Prelude.{Result, Ok, Err, OnOk, drop, take, ◌-◌, Contains, Some, insert, is_some}
 use Rattle.std.specs.List.{remove}
-use Rattle.std.proofs.lemmas.Bool.{cases_eq, and_from, true≢false, ne_eqb, eq-eqb, eqb-true, and_parts}
-use Rattle.std.proofs.lemmas.Bool.Decides.{nat_tests}
+use Rattle.std.proofs.lemmas.Bool.{cases_eq, true≢false, ne_eqb, eq-eqb, eqb-true, and_parts}
 use Rattle.std.proofs.lemmas.List.{take_all}
 use Rattle.std.proofs.lemmas.List.Sums.{list_all-from_AllPass}
 use Rattle.std.proofs.lemmas.List.Elements.{Contains-get_or}
 use Rattle.rf_terms.specs.declared.kind.Kind.{Kind}
 use Rattle.rf_terms.specs.Kinds.{roles_of}
 use Rattle.rf_log.specs.Case.{Case, count_of, counts_of, freq_of, margin_of, is_instance, is_in_order, are_distinct, are_together, is_broken, breaks}
-use Rattle.rf_log.specs.Box.{between, only_index}
+use Rattle.rf_log.specs.Box.{only_index}
 use Rattle.rf_log.specs.Relations.{IsStruck, IsSettled, IsLiving}
 use Rattle.rf_log.specs.Hints.{indices_with, is_ruled_out}
-use Rattle.rf_log.proofs.Kept.{each_below-from}
-use Rattle.rf_domain.proofs.Counting.{lt_cases}
+use Rattle.rf_domain.proofs.Counting.{lt_cases, count_bound}
 use Rattle.rf_trail.specs.Trace.{Trace, box_of}
 use Rattle.rf_propagate.specs.Laws.{IsQuiet}
-use Rattle.rf_propagate.proofs.BothLaws.{Kept, total, same_kept, fewer_kept, counted_same}
-use Rattle.rf_props.specs.Sweeps.{left, IsClear, IsSwept, IsKindDone, AreKindsDone, IsUnmoved, WhenUnmoved}
+use Rattle.rf_props.specs.Sweeps.{left, has_at_most_one, IsClear, IsSwept, IsKindDone, AreKindsDone, NoneFixed, WhenNoneFixed}
 use Rattle.rf_props.proofs.InsertLemmas.{insert_remove, length_remove}
 use Rattle.rf_props.proofs.SingleLemmas.{only_below-some}
 use Rattle.rf_props.proofs.StrikeLemmas.{sized_left}
-use Rattle.rf_props.proofs.SweepLemmas.{GoesOn, goes_on, stays, carried, unmoved_second}
+use Rattle.rf_props.proofs.InstanceLemmas.{ruled_at}
+use Rattle.rf_props.proofs.KeptLemmas.{GoesOn, goes_on, stays, swept_on, kind_on, none_fixed_first, none_fixed_second, fixed_of, more_fixed, same_fixed}
 
 map_same : (f g : ℕ → ℕ) (xs : List ℕ) → ((i : ℕ) → i < length xs → f (get_or xs i 0) ≡ g (get_or xs i 0)) → map f xs ≡ map g xs
 map_same f g [] each = refl
 map_same f g (x ∷ xs) each =
     ap (λ y. y ∷ map f xs) (each 0 (omega arith)) ∙ ap (λ ys. g x ∷ ys) (map_same f g xs (λ i low. each (suc i) (omega arith)))
 
-right_true : (a b : Bool) → b ≡ true → (a || b) ≡ true
-right_true true b e = refl
-right_true false b e = e
-
 -- a struck index breaks an instance whose other carriers have one index each, as a test
 struck_out : (case : Case) (t : Trace) (kinds : List Kind) (c k : ℕ) → t.counts ≡ counts_of case → box_of t c k → (s : IsStruck case kinds (box_of t) c k)
     → is_ruled_out case (left t) s.kind s.roles c k k ≡ true
 struck_out case t kinds c k counts here s =
-    and_from _ _ (and_from _ _ s.is_instance (list_all-from_AllPass (λ o. (o == c) || is_some (only_index case (left t) o)) s.roles
-    (λ i d low. some_or (get_or s.roles i d) (Contains-get_or s.roles i d low))))
-    (each_below-from (count_of case c) (λ j. not (between k k j) || breaks case s.kind s.roles (indices_with case (left t) c j))
-    (λ j low. at_j j (cases_eq j k)))
+    ruled_at case (left t) s.kind s.roles c k s.is_instance
+    (list_all-from_AllPass (λ o. (o == c) || is_some (only_index case (left t) o)) s.roles (λ i d low. some_or (get_or s.roles i d) (Contains-get_or s.roles i d low))) broken
   where
     sole : (r : ℕ) → Contains s.roles r → (r ≡ c → ⊥) → only_index case (left t) r ≡ Some (s.at r)
     sole r among other =
@@ -64,10 +56,6 @@ struck_out case t kinds c k counts here s =
         ap (λ fs. is_broken s.kind fs (margin_of case s.kind s.roles)) (map_same (λ r. freq_of case r (indices_with case (left t) c k r)) (λ r. freq_of case r (s.at r)) s.roles
         (λ i low. ap (freq_of case (get_or s.roles i 0)) (index (get_or s.roles i 0) (Contains-get_or s.roles i 0 low)))) ∙ s.breaks
 
-    at_j : (j : ℕ) → (j ≡ k) ⊎ (j ≡ k → ⊥) → (not (between k k j) || breaks case s.kind s.roles (indices_with case (left t) c j)) ≡ true
-    at_j j (inl e) = let b : breaks case s.kind s.roles (indices_with case (left t) c j) ≡ true = ap (λ x. breaks case s.kind s.roles (indices_with case (left t) c x)) e ∙ broken in right_true (not (between k k j)) _ b
-    at_j j (inr e) = let out : between k k j ≡ false = grind (arith, nat_tests) in rw out refl
-
 roles_size : (case : Case) (kind : Kind) (roles : List ℕ) → is_instance case kind roles ≡ true → length roles ≡ roles_of kind
 roles_size case kind roles good =
     eqb-true (length roles) (roles_of kind) (and_parts (length roles == roles_of kind) _ (and_parts _ (are_distinct roles) (and_parts _ (is_in_order kind roles) (and_parts _ (are_together case roles) good).0).0).0).0
@@ -86,54 +74,58 @@ settled_by case t kinds counts done c k here s =
 -- the sweeps with the target in the first so many roles
 pub record PlacesDone (case : Case) (kind : Kind) (start now : Trace) (upto : ℕ) : Type 0 where
   pub on : GoesOn case start now
-  pub done : IsUnmoved start now → (place : ℕ) → place < upto → IsSwept case (left now) kind place []
+  pub done : NoneFixed start now → (place : ℕ) → place < upto → IsSwept case (left now) kind place []
 
 pub places_start : (case : Case) (kind : Kind) (t : Trace) → PlacesDone case kind t t 0
 places_start case kind t = record { on = stays case t; done = λ still place none. absurd (omega arith) }
 
-pub places_more : {case : Case} {kind : Kind} {start mid now : Trace} {i : ℕ} → PlacesDone case kind start mid i → GoesOn case mid now
-    → WhenUnmoved mid now (IsSwept case (left now) kind i []) → PlacesDone case kind start now (i + 1)
-places_more {case} {kind} {start} {mid} {now} {i} so next swept = record {
+pub places_more : {case : Case} {kind : Kind} {start mid now : Trace} {i : ℕ} → PlacesDone case kind start mid i → mid.counts ≡ counts_of case → GoesOn case mid now
+    → WhenNoneFixed mid now (IsSwept case (left now) kind i []) → PlacesDone case kind start now (i + 1)
+places_more {case} {kind} {start} {mid} {now} {i} so counts next swept = record {
   on = goes_on so.on next;
   done = λ still place low. elim (lt_cases place i (omega arith)) [
-    | inl earlier ↦ carried (λ has. (p : ℕ) → p < i → IsSwept case has kind p []) so.on next so.done still place earlier
-    | inr last ↦ subst (λ (x : ℕ). IsSwept case (left now) kind x []) (sym last) (swept.holds (unmoved_second so.on next still))
+    | inl earlier ↦ swept_on next counts (none_fixed_second so.on still) kind place [] (so.done (none_fixed_first next still) place earlier)
+    | inr last ↦ subst (λ (x : ℕ). IsSwept case (left now) kind x []) (sym last) (swept.holds (none_fixed_second so.on still))
   ];
 }
 
 -- one kind and then the others
-pub kinds_more : {case : Case} {start mid now : Trace} (kind : Kind) (kinds : List Kind) → GoesOn case start mid → GoesOn case mid now
-    → WhenUnmoved start mid (IsKindDone case (left mid) kind) → WhenUnmoved mid now (AreKindsDone case (left now) kinds) → WhenUnmoved start now (AreKindsDone case (left now) (kind ∷ kinds))
-kinds_more {case} {start} {mid} {now} kind kinds first second one rest = record {
+pub kinds_more : {case : Case} {start mid now : Trace} (kind : Kind) (kinds : List Kind) → mid.counts ≡ counts_of case → GoesOn case start mid → GoesOn case mid now
+    → WhenNoneFixed start mid (IsKindDone case (left mid) kind) → WhenNoneFixed mid now (AreKindsDone case (left now) kinds) → WhenNoneFixed start now (AreKindsDone case (left now) (kind ∷ kinds))
+kinds_more {case} {start} {mid} {now} kind kinds counts first second one rest = record {
   holds = λ still. record { each = λ k among. at k among still };
 }
   where
-    at : (k : Kind) → Contains (kind ∷ kinds) k → IsUnmoved start now → IsKindDone case (left now) k
-    at k (zero, low, is) still = subst (λ (x : Kind). IsKindDone case (left now) x) is (carried (λ has. IsKindDone case has kind) first second one.holds still)
-    at k (suc i, low, is) still = (rest.holds (unmoved_second first second still)).each k (i, omega arith, is)
+    at : (k : Kind) → Contains (kind ∷ kinds) k → NoneFixed start now → IsKindDone case (left now) k
+    at k (zero, low, is) still =
+        subst (λ (x : Kind). IsKindDone case (left now) x) is (kind_on second counts (none_fixed_second first still) kind (one.holds (none_fixed_first second still)))
+    at k (suc i, low, is) still = (rest.holds (none_fixed_second first still)).each k (i, omega arith, is)
 
--- a round that left as many indices as before
-pub quiet_round : (case : Case) (kinds : List Kind) (start now : Trace) (x y : ℕ) → GoesOn case start now → start.counts ≡ counts_of case → WhenUnmoved start now (AreKindsDone case (left now) kinds)
-    → x ≡ total now → y ≡ total start → x ≡ y → IsLiving case (box_of now) → IsQuiet case kinds false (box_of now)
-quiet_round case kinds start now x y on counts done is was same_count living =
-    let kept : Kept case [] start now = record { counts = on.counts; sound = on.sound [] } in
-    let still : IsUnmoved start now = record { same = same_kept kept (counted_same now start x y is was same_count) } in record {
-      living = living;
-      settled = settled_by case now kinds (on.counts ∙ counts) (done.holds still);
-      allowed = λ asked. absurd (true≢false (sym asked));
-    }
+-- a round after which as many carriers as before have at most one index
+pub quiet_round : (case : Case) (kinds : List Kind) (start now : Trace) (x y : ℕ) → GoesOn case start now → start.counts ≡ counts_of case → WhenNoneFixed start now (AreKindsDone case (left now) kinds)
+    → x ≡ fixed_of now → y ≡ fixed_of start → x ≡ y → IsLiving case (box_of now) → IsQuiet case kinds false (box_of now)
+quiet_round case kinds start now x y on counts done is was same_count living = record {
+  living = living;
+  settled = settled_by case now kinds (on.counts ∙ counts) (done.holds (same_fixed on (sym is ∙ same_count ∙ was)));
+  allowed = λ asked. absurd (true≢false (sym asked));
+}
 
-pub fewer_round : (case : Case) (start now : Trace) (x y : ℕ) → GoesOn case start now → x ≡ total now → y ≡ total start → (x ≡ y → ⊥) → total now < total start
-fewer_round case start now x y on is was other =
-    let kept : Kept case [] start now = record { counts = on.counts; sound = on.sound [] } in
-    omega (arith, fewer_kept kept, is, was, other)
+-- how many carriers have two indices or more
+abbrev pub open_of : Trace → ℕ
+open_of t = length t.counts - fixed_of t
+
+pub fewer_open : (case : Case) (start now : Trace) (x y : ℕ) → GoesOn case start now → x ≡ fixed_of now → y ≡ fixed_of start → (x ≡ y → ⊥) → open_of now < open_of start
+fewer_open case start now x y on is was other =
+    let size : length now.counts ≡ length start.counts = ap length on.counts in
+    omega (arith, more_fixed on, is, was, other, size, count_bound (has_at_most_one now) (length now.counts))
 
 -- the same with the answer of the second call
-pub kinds_after : {A E : Type 0} {case : Case} {start mid now : Trace} (all : List Kind) (kind : Kind) (kinds : List Kind) (r : Result A E) → kind ∷ kinds ≡ all → GoesOn case start mid → GoesOn case mid now
-    → WhenUnmoved start mid (IsKindDone case (left mid) kind) → OnOk r (WhenUnmoved mid now (AreKindsDone case (left now) kinds)) → OnOk r (WhenUnmoved start now (AreKindsDone case (left now) all))
-kinds_after {case = case} {start = start} {now = now} all kind kinds (Ok x) is first second one rest =
-    subst (λ (ks : List Kind). WhenUnmoved start now (AreKindsDone case (left now) ks)) is (kinds_more kind kinds first second one rest)
-kinds_after all kind kinds (Err x) is first second one rest = rest
+pub kinds_after : {A E : Type 0} {case : Case} {start mid now : Trace} (all : List Kind) (kind : Kind) (kinds : List Kind) (r : Result A E) → kind ∷ kinds ≡ all
+    → mid.counts ≡ counts_of case → GoesOn case start mid → GoesOn case mid now
+    → WhenNoneFixed start mid (IsKindDone case (left mid) kind) → OnOk r (WhenNoneFixed mid now (AreKindsDone case (left now) kinds)) → OnOk r (WhenNoneFixed start now (AreKindsDone case (left now) all))
+kinds_after {case = case} {start = start} {now = now} all kind kinds (Ok x) is counts first second one rest =
+    subst (λ (ks : List Kind). WhenNoneFixed start now (AreKindsDone case (left now) ks)) is (kinds_more kind kinds counts first second one rest)
+kinds_after all kind kinds (Err x) is counts first second one rest = rest
 
 pub first_and_rest : (xs : List Kind) (d : Kind) → 1 ≤ length xs → get_or xs 0 d ∷ take (length xs - 1) (drop 1 xs) ≡ xs
 first_and_rest [] d some = absurd (omega arith)

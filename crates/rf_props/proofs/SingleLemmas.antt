@@ -1,9 +1,10 @@
 -- Carriers with one index.
-use Rattle.std.proofs.Common.{◌≡◌, ◌∙◌, ℕ, zero, suc, ◌+◌, ◌<◌, ◌≤◌, Bool, true, false, not, List, [], ◌∷◌, ◌++◌, length, map, take, get_or, set, refl, sym, ap, subst, inl, inr, arith}
+use Rattle.std.proofs.Common.{◌≡◌, ◌∙◌, ℕ, zero, suc, ◌+◌, ◌<◌, ◌≤◌, Bool, true, false, not, List, [], ◌∷◌, ◌++◌, length, map, take, get_or, set, add-zero, refl, sym, ap, subst, inl, inr, arith}
 use Rattle.std.specs.Prelude.{Option, Some, None, is_some, if◌then◌else◌}
 use Rattle.std.specs.Option.{unwrap_or}
 use Rattle.std.proofs.Math.ListN.{length-set}
-use Rattle.std.proofs.lemmas.Bool.{cases_Bool, cases_lt, and_from, true≢false}
+use Rattle.std.proofs.lemmas.Bool.{cases_Bool, cases_lt, and_from, le-leb, true≢false}
+use Rattle.std.proofs.lemmas.Bool.Decides.{nat_tests}
 use Rattle.std.proofs.lemmas.List.{take_more, take_more_set, map-append}
 use Rattle.std.proofs.lemmas.List.Folds.{list_all_more, list_all_at}
 use Rattle.std.proofs.lemmas.List.Elements.{All-push}
@@ -11,10 +12,10 @@ use Rattle.rf_terms.specs.Forms.{AreFrequencies}
 use Rattle.rf_log.specs.Case.{Case, count_of, counts_of, freq_of}
 use Rattle.rf_log.specs.Box.{Box, each_below, only_below, only_index}
 use Rattle.rf_log.proofs.Kept.{each_below-from, only_below-is}
-use Rattle.rf_domain.specs.Indices.{IsOnly}
-use Rattle.rf_domain.specs.Sets.{has}
+use Rattle.rf_domain.specs.Indices.{IsOnly, count_below}
+use Rattle.rf_domain.specs.Sets.{has, sizes, size_of}
 use Rattle.rf_trail.specs.Trace.{Trace}
-use Rattle.rf_props.specs.Sweeps.{left, sole_freq, IsSingle, HasMany, AreSingle, HaveMany}
+use Rattle.rf_props.specs.Sweeps.{left, has_at_most_one, sole_freq, IsSingle, HasMany, AreSingle, HaveMany}
 use Rattle.rf_props.proofs.StrikeLemmas.{sized_left}
 
 pub only_below-some : (n : ℕ) (p : ℕ → Bool) (k : ℕ) → k < n → p k ≡ true → ((j : ℕ) → p j ≡ true → j ≡ k) → only_below n p ≡ Some k
@@ -36,7 +37,7 @@ only_below-some (suc n) p k low here alone =
     last : (k : ℕ) → n ≤ k → k < suc n → k ≡ n
     last k over low = omega arith
 
-only_below-here : (n : ℕ) (p : ℕ → Bool) (k : ℕ) → only_below n p ≡ Some k → (k < n) × (p k ≡ true)
+pub only_below-here : (n : ℕ) (p : ℕ → Bool) (k : ℕ) → only_below n p ≡ Some k → (k < n) × (p k ≡ true)
 only_below-here zero p k only = cc
 only_below-here (suc n) p k only =
     elim (cases_Bool (p n)) [
@@ -99,3 +100,23 @@ singles_more case has others n f all so known room one =
 
 pub singles_none : (case : Case) (has : Box) (others : List ℕ) (n : ℕ) → n < length others → HasMany case has (get_or others n 0) → HaveMany case has others
 singles_none case has others n known one = record { many = list_all_at (λ c. is_some (only_index case has c)) others n 0 known one.many }
+
+-- the number of indices that are left to a carrier, as the sets count them
+same_count : (t : Trace) (sets : List (List Bool)) (c n : ℕ) → sizes sets ≡ t.counts → has sets ≡ left t → n ≡ count_below (has sets c) (size_of (sizes sets) c) → n ≡ count_below (left t c) (size_of t.counts c)
+same_count t sets c n same is counted = counted ∙ ap (λ f. count_below (f c) (size_of (sizes sets) c)) is ∙ ap (λ ns. count_below (left t c) (size_of ns c)) same
+
+-- the first so many carriers, and one more, which has at most one index or has not
+pub fixed_more : (t : Trace) (sets : List (List Bool)) (c n fixed : ℕ) → sizes sets ≡ t.counts → has sets ≡ left t → n ≡ count_below (has sets c) (size_of (sizes sets) c) → n ≤ 1
+    → fixed ≡ count_below (has_at_most_one t) c → fixed + 1 ≡ count_below (has_at_most_one t) (c + 1)
+fixed_more t sets c n fixed same is counted few so =
+    let here : has_at_most_one t c ≡ true = le-leb _ _ (subst (λ (m : ℕ). m ≤ 1) (same_count t sets c n same is counted) few) in
+    let e : c + 1 ≡ suc c = omega arith in
+    rw (e, here) (ap (λ m. m + 1) so)
+
+pub fixed_same : (t : Trace) (sets : List (List Bool)) (c n fixed : ℕ) → sizes sets ≡ t.counts → has sets ≡ left t → n ≡ count_below (has sets c) (size_of (sizes sets) c) → 1 < n
+    → fixed ≡ count_below (has_at_most_one t) c → fixed ≡ count_below (has_at_most_one t) (c + 1)
+fixed_same t sets c n fixed same is counted many so =
+    let more : 1 < count_below (left t c) (size_of t.counts c) = subst (λ (m : ℕ). 1 < m) (same_count t sets c n same is counted) many in
+    let here : has_at_most_one t c ≡ false = grind (arith, nat_tests) in
+    let e : c + 1 ≡ suc c = omega arith in
+    rw (e, here) (so ∙ sym (add-zero _))

@@ -40,7 +40,7 @@ pub sized_left : (case : Case) (t : Trace) → t.counts ≡ counts_of case → (
 sized_left case t counts c k here =
     omega (arith, has_size t.counts t.entries c k here, ap (λ ns. size_of ns c) counts, count_any case c)
 
-distinct_of : (case : Case) (kind : Kind) (roles : List ℕ) → is_instance case kind roles ≡ true → are_distinct roles ≡ true
+pub distinct_of : (case : Case) (kind : Kind) (roles : List ℕ) → is_instance case kind roles ≡ true → are_distinct roles ≡ true
 distinct_of case kind roles good =
     let parts = and_parts ((length roles == roles_of kind) && list_all _ roles && are_distinct roles && is_in_order kind roles) (are_together case roles) good in
     let front = and_parts ((length roles == roles_of kind) && list_all _ roles && are_distinct roles) (is_in_order kind roles) parts.0 in

@@ -1,3 +1,4 @@
 pub mod Sweeps
 pub mod Ranges
 pub mod Bans
+pub mod Live

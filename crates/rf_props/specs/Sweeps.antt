@@ -1,15 +1,18 @@
 -- What a sweep over the instances of a kind leaves.
-use Rattle.std.specs.Prelude.{◌≡◌, ℕ, ◌+◌, ◌<◌, ◌≤◌, pos, List, ◌++◌, true, false, insert, length, map, is_some, [], Contains}
+use Rattle.std.specs.Prelude.{◌≡◌, ℕ, ◌+◌, ◌<◌, ◌≤◌, ℤ, pos, List, ◌++◌, Bool, true, false, nat_le, insert, length, map, is_some, [], Contains}
 use Rattle.std.specs.List.{list_all}
 use Rattle.std.specs.Option.{unwrap_or}
 use Rattle.rf_terms.specs.declared.kind.Kind.{Kind}
 use Rattle.rf_terms.specs.Kinds.{roles_of}
 use Rattle.rf_terms.specs.Forms.{AreFrequencies}
 use Rattle.rf_terms.specs.Windows.{Breaks}
-use Rattle.rf_log.specs.Case.{Case, count_of, freq_of, margin_of, is_among}
+use Rattle.rf_log.specs.Case.{Case, count_of, freq_of, asked_by, margin_of, is_among}
 use Rattle.rf_log.specs.Box.{Box, between, only_index}
 use Rattle.rf_log.specs.Hints.{is_ruled_out}
+use Rattle.rf_domain.specs.Indices.{count_below}
+use Rattle.rf_domain.specs.Sets.{size_of}
 use Rattle.rf_trail.specs.Trace.{Trace, has_of}
+use Rattle.rf_props.specs.Ranges.{IsIn}
 
 -- the indices that are left, as a test
 abbrev pub left : Trace → Box
@@ -39,9 +42,13 @@ pub record IsKindDone (case : Case) (has : Box) (kind : Kind) : Type 0 where
 pub record AreKindsDone (case : Case) (has : Box) (kinds : List Kind) : Type 0 where
   pub each : (kind : Kind) → Contains kinds kind → IsKindDone case has kind
 
--- the same indices are left
-pub record IsUnmoved (old new : Trace) : Type 0 where
-  pub same : left new ≡ left old
+-- at most one index is left to the carrier
+abbrev pub has_at_most_one : Trace → ℕ → Bool
+has_at_most_one t c = nat_le (count_below (left t c) (size_of t.counts c)) 1
+
+-- no carrier came to its last index
+pub record NoneFixed (old new : Trace) : Type 0 where
+  pub each : (c : ℕ) → has_at_most_one new c ≡ true → has_at_most_one old c ≡ true
 
 -- the same indices are left to these carriers
 pub record KeepsRows (others : List ℕ) (old new : Trace) : Type 0 where
@@ -76,6 +83,18 @@ pub record AreSingle (case : Case) (has : Box) (others freqs : List ℕ) : Type 
 pub record HaveMany (case : Case) (has : Box) (others : List ℕ) : Type 0 where
   pub many : list_all (λ c. is_some (only_index case has c)) others ≡ false
 
--- where the same indices are left
-pub record WhenUnmoved (old new : Trace) (P : Type 0) : Type 0 where
-  pub holds : IsUnmoved old new → P
+-- where no carrier came to its last index
+pub record WhenNoneFixed (old new : Trace) (P : Type 0) : Type 0 where
+  pub holds : NoneFixed old new → P
+
+-- no carrier asks more of the kind
+pub record IsReach (case : Case) (kind : Kind) (reach : ℕ) : Type 0 where
+  pub each : (c : ℕ) → asked_by case kind c ≤ reach
+
+-- no index that is left to the carrier has a frequency from lo to hi
+pub record HasNoneOf (case : Case) (has : Box) (c : ℕ) (lo hi : ℤ) : Type 0 where
+  pub none : (k : ℕ) → has c k ≡ true → ¬ IsIn lo hi (freq_of case c k)
+
+-- so it is for each carrier
+pub record HasNoneWithin (case : Case) (has : Box) (lo hi : ℤ) : Type 0 where
+  pub each : (c : ℕ) → c < length case.carriers → HasNoneOf case has c lo hi

@@ -16,22 +16,25 @@ use rf_base::NoMemory;
 use rf_propagate::{Both, Engine, Outcome};
 use rf_trail::Trail;
 
-/// Every propagator of the rules: what is not allowed, and each kind of the rule table.
-pub type Rules = Both<Bans, Both<Spacing, Both<TwoSource, ThreeSource>>>;
+/// Every propagator of the rules: what is not allowed, and each kind of the rule table. Those that cost little come to rest
+/// before one that costs more goes on.
+pub type Rules = Both<Both<Both<Bans, Spacing>, TwoSource>, ThreeSource>;
 
 /// The engine of every propagator over a theory.
 pub fn engine_of<'a>(theory: ProblemTheory<'a>) -> Engine<ProblemTheory<'a>, Rules>
     ensures { result.theory ≡ theory.entry }
 {
-    let rules = Both {
+    let spaced = Both {
         first: Bans::new(),
-        second: Both {
-            first: Spacing::new(),
-            second: Both {
-                first: TwoSource::new(),
-                second: ThreeSource::new(),
-            },
-        },
+        second: Spacing::new(),
+    };
+    let clear_of_two = Both {
+        first: spaced,
+        second: TwoSource::new(),
+    };
+    let rules = Both {
+        first: clear_of_two,
+        second: ThreeSource::new(),
     };
     Engine::new(theory, rules)
 }

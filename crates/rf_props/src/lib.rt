@@ -2,9 +2,12 @@
 #![tactic(auto)]
 
 mod bans;
+#[cfg(test)]
+mod closure_tests;
 mod engine;
 mod instance;
 mod lines;
+mod live;
 mod range;
 mod roles;
 mod rules;

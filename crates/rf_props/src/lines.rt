@@ -47,6 +47,11 @@ impl Lines {
         }
     }
 
+    /// Where their memory comes from.
+    pub fn alloc(&self) -> Global {
+        self.alloc
+    }
+
     /// Adds a line at the end. `NoMemory` where no memory is found, which leaves them unchanged.
     pub fn push(&mut self, number: u32, conds: &[Cond]) -> Result<(), NoMemory>
         ensures ok { OnOk result (self.new ≡ self.old ++ record { number = number; conds = conds.now } ∷ []) }

@@ -1,7 +1,8 @@
 ghost use Rattle.std.specs.Prelude.{◌≡◌, ◌<◌, ◌≤◌, All, length, take, MatchOption};
 ghost use Rattle.rf_log.specs.Case.{counts_of};
 ghost use Rattle.rf_problem.specs.Problem.{case_of};
-ghost use Rattle.rf_props.specs.Sweeps.{left, IsSingle, HasMany, AreSingle, HaveMany};
+ghost use Rattle.rf_domain.specs.Indices.{count_below};
+ghost use Rattle.rf_props.specs.Sweeps.{left, has_at_most_one, IsSingle, HasMany, AreSingle, HaveMany};
 
 use rf_problem::Problem;
 use rf_trail::Trail;
@@ -33,4 +34,19 @@ pub fn singles(problem: &Problem, trail: &Trail, carriers: &[usize]) -> Option<[
         }
     }
     Some(freqs)
+}
+
+/// How many carriers have at most one index left.
+pub fn count_fixed(trail: &Trail) -> usize
+    ensures { result ≡ count_below (has_at_most_one trail.now) (length trail.now.counts) }
+{
+    let domains = trail.domains();
+    let mut fixed = 0;
+    for carrier in 0..domains.carriers() {
+        if domains.count(carrier) > 1 {
+            continue;
+        }
+        fixed += 1;
+    }
+    fixed
 }

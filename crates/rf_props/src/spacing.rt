@@ -32,7 +32,7 @@ impl<'a> Propagator<ProblemTheory<'a>> for Spacing {
         theory: &ProblemTheory<'a>,
         trail: &mut Trail,
     ) -> Result<Outcome, NoMemory> {
-        settle_kinds(theory.problem(), &[Kind::Spacing], trail)
+        settle_kinds(theory.alloc(), theory.problem(), &[Kind::Spacing], trail)
     }
 
     ghost lasts = { λ _ _ _ _ _ _. tt };

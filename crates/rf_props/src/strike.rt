@@ -8,7 +8,7 @@ ghost use Rattle.rf_domain.specs.Sets.{size_of};
 ghost use Rattle.rf_problem.specs.Problem.{case_of};
 ghost use Rattle.rf_propagate.specs.Laws.{Extends};
 ghost use Rattle.rf_terms.specs.Forms.{AreFrequencies};
-ghost use Rattle.rf_props.specs.Sweeps.{left, AreFixed, IsClear, KeepsRows, IsHarmless, AreBroken};
+ghost use Rattle.rf_props.specs.Sweeps.{left, HasNoneOf, HasNoneWithin, AreFixed, IsClear, KeepsRows, IsHarmless, AreBroken};
 
 use crate::instance::is_instance;
 use crate::range::indices_within;
@@ -94,6 +94,30 @@ pub fn is_left(trail: &Trail, carrier: usize, first: u32, last: u32) -> bool
 {
     match trail.domains().next(carrier, first) {
         Some(k) => k <= last,
+        None => false,
+    }
+}
+
+/// Whether no index that is left to a carrier has a frequency from `lo` to `hi` kilohertz.
+pub fn has_none_within(problem: &Problem, trail: &Trail, lo: i64, hi: i64) -> bool
+    requires { trail.now.counts ≡ counts_of (case_of problem.now) }
+    ensures { result ≡ true → HasNoneWithin (case_of problem.now) (left trail.now) lo hi }
+{
+    for carrier in 0..problem.carriers() {
+        if has_some_within(problem, trail, carrier, lo, hi) {
+            return false;
+        }
+    }
+    true
+}
+
+fn has_some_within(problem: &Problem, trail: &Trail, carrier: usize, lo: i64, hi: i64) -> bool
+    requires counts { trail.now.counts ≡ counts_of (case_of problem.now) }
+    requires carrier { carrier < length problem.now.carriers }
+    ensures { result ≡ false → HasNoneOf (case_of problem.now) (left trail.now) carrier lo hi }
+{
+    match indices_within(problem.freqs(carrier), lo, hi) {
+        Some(range) => is_left(trail, carrier, range.0, range.1),
         None => false,
     }
 }

@@ -38,6 +38,11 @@ impl<'a> ProblemTheory<'a> {
         })
     }
 
+    /// Where its memory comes from.
+    pub fn alloc(&self) -> Global {
+        self.lines.alloc()
+    }
+
     /// The problem.
     pub fn problem(&self) -> &Problem
         ensures { result.now ≡ self.now.problem.now }

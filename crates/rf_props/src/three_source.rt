@@ -33,6 +33,7 @@ impl<'a> Propagator<ProblemTheory<'a>> for ThreeSource {
         trail: &mut Trail,
     ) -> Result<Outcome, NoMemory> {
         settle_kinds(
+            theory.alloc(),
             theory.problem(),
             &[Kind::T3Three, Kind::T5ThreeA, Kind::T5ThreeB],
             trail,

@@ -32,7 +32,12 @@ impl<'a> Propagator<ProblemTheory<'a>> for TwoSource {
         theory: &ProblemTheory<'a>,
         trail: &mut Trail,
     ) -> Result<Outcome, NoMemory> {
-        settle_kinds(theory.problem(), &[Kind::T3Two, Kind::T5Two], trail)
+        settle_kinds(
+            theory.alloc(),
+            theory.problem(),
+            &[Kind::T3Two, Kind::T5Two],
+            trail,
+        )
     }
 
     ghost lasts = { λ _ _ _ _ _ _. tt };

@@ -1,3 +1,4 @@
+use Rattle.std.proofs.Common.{◌∙◌}
 use Rattle.rf_problem.specs.Problem.{case_of}
 use Rattle.rf_propagate.specs.Laws.{same}
 use Rattle.rf_propagate.proofs.BothLaws.{grows_on}
@@ -13,5 +14,5 @@ returns-in_ok-sweep_kind-in-len1-up-clause-sound t c = λ lines. grows_on (c.swe
 pub returns-in_ok-sweep_kind-in-len1-up-clause-swept : goal.returns-in_ok-sweep_kind-in-len1-up-clause-swept
 returns-in_ok-sweep_kind-in-len1-up-clause-swept t c =
     kinds_after {case = case_of c.args.problem.now} {start = c.args.trail.now} {mid = c.sweep_kind.new.trail} {now = c.sweep_kinds.new.trail} c.args.kinds.now _ _ c.sweep_kinds.result (first_and_rest c.args.kinds.now _ c.in-len1-up.len_at_least)
-    (record { counts = c.sweep_kind.ensures.counts; sound = c.sweep_kind.ensures.sound }) (record { counts = c.sweep_kinds.ensures.counts; sound = c.sweep_kinds.ensures.sound })
+    (c.sweep_kind.ensures.counts ∙ c.requires.counts) (record { counts = c.sweep_kind.ensures.counts; sound = c.sweep_kind.ensures.sound }) (record { counts = c.sweep_kinds.ensures.counts; sound = c.sweep_kinds.ensures.sound })
     c.in_ok-sweep_kind-in-len1-up.ensures.swept c.sweep_kinds.ensures.swept

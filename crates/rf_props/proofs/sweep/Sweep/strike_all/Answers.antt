@@ -1,7 +1,10 @@
+use Rattle.std.proofs.Common.{FitsSigned, w64, rules}
+use Rattle.std.proofs.lemmas.Int.{to_z-of_z}
 use Rattle.rf_problem.specs.Problem.{case_of}
 use Rattle.rf_propagate.specs.Laws.{same}
-use Rattle.rf_propagate.proofs.BothLaws.{grows_on}
-use Rattle.rf_props.proofs.SweepLemmas.{many_swept, striking_start, striking_more}
+use Rattle.rf_props.specs.Sweeps.{left}
+use Rattle.rf_props.proofs.SweepLemmas.{many_swept, harmless_swept, far_swept}
+use Rattle.rf_props.proofs.LiveLemmas.{marked_on, far_within, within_at, unmarked_within}
 use Rattle.rf_props.proofs.sweep.Sweep.strike_all.Goals as goal
 
 pub returns-in-None-clause-sound : goal.returns-in-None-clause-sound
@@ -13,14 +16,37 @@ returns-in-None-clause-swept c =
       holds = λ still. many_swept (case_of s.problem.now) c.args.trail.now s.kind s.place c.args.others.now c.requires.counts c.in-None.ensures;
     }
 
-pub loop-target-init : goal.loop-target-init
-loop-target-init c =
+pub returns-in-None-window-clause-sound : goal.returns-in-None-window-clause-sound
+returns-in-None-window-clause-sound c = λ lines. same
+
+pub returns-in-None-window-clause-swept : goal.returns-in-None-window-clause-swept
+returns-in-None-window-clause-swept c =
+    let s = c.args.self.now in record {
+      holds = λ still.
+          harmless_swept (case_of s.problem.now) c.args.trail.now s.kind s.place s.reach c.args.others.now _ c.requires.counts c.requires.others c.in-Some.ensures.fixed c.requires.reach c.in-None-window.ensures;
+    }
+
+pub returns-then-is_far-clause-sound : goal.returns-then-is_far-clause-sound
+returns-then-is_far-clause-sound c = λ lines. same
+
+pub returns-then-is_far-clause-swept : goal.returns-then-is_far-clause-swept
+returns-then-is_far-clause-swept c =
     let s = c.args.self.now in
-    striking_start (case_of s.problem.now) s.kind s.place c.args.others.now _ c.args.trail.now c.in-Some.ensures.fixed
+    let lo = c.in-Some-window.range.0 in
+    let hi = c.in-Some-window.range.1 in
+    let lo_fits : FitsSigned w64 lo = search rules in
+    let hi_fits : FitsSigned w64 hi = search rules in record {
+      holds = λ still.
+          far_swept (case_of s.problem.now) c.args.trail.now s.kind s.place s.reach c.args.others.now _ lo hi c.requires.counts c.requires.others c.in-Some.ensures.fixed c.requires.reach
+          c.in-Some-window.ensures.1
+          (within_at (to_z-of_z w64 lo lo_fits) (to_z-of_z w64 hi hi_fits) (far_within (case_of s.problem.now) (left c.args.trail.now) c.args.live.now _ _ c.requires.live (c.is_far.ensures c.if-is_far.true)));
+    }
 
-pub returns-in_err-strike-clause-sound : goal.returns-in_err-strike-clause-sound
-returns-in_err-strike-clause-sound c = λ lines. grows_on (c.loop-target.invariant.on.sound lines) (c.strike.ensures.sound lines)
+pub returns-then-has_none_within-clause-live : goal.returns-then-has_none_within-clause-live
+returns-then-has_none_within-clause-live c =
+    let s = c.args.self.now in
+    unmarked_within (case_of s.problem.now) (left c.strike_each.new.trail) c.args.live.now c.unmark.new.self _ _
+    (marked_on (record { counts = c.strike_each.ensures.counts; sound = c.strike_each.ensures.sound }) c.requires.live) (c.has_none_within.ensures c.if-has_none_within.true) c.unmark.ensures
 
-pub loop-target-preserved : goal.loop-target-preserved
-loop-target-preserved c =
-    striking_more c.loop-target.invariant (record { counts = c.strike.ensures.counts; sound = c.strike.ensures.sound }) c.strike.ensures.rows c.in_ok-strike.ensures.clear
+pub returns-else-has_none_within-clause-live : goal.returns-else-has_none_within-clause-live
+returns-else-has_none_within-clause-live c = marked_on (record { counts = c.strike_each.ensures.counts; sound = c.strike_each.ensures.sound }) c.requires.live
