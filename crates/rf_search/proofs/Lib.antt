@@ -5,6 +5,8 @@ pub mod WholeTrail
 pub mod LineValid
 pub mod Steps
 pub mod Endings
+pub mod NeededHints
+pub mod SparedFlags
 pub mod Collect
 pub mod Budget
 pub mod Choosing

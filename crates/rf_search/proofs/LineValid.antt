@@ -1,9 +1,9 @@
 -- The nogood line of a trail is valid in the log.
 use Rattle.std.proofs.Common.{◌≡◌, ℕ, zero, suc, ◌+◌, ◌<◌, ◌≤◌, List, [], ◌∷◌, ◌++◌, length, Bool, true, false, not, ◌&&◌, refl, sym, ◌∙◌, ap, subst, arith, inl, inr, slice_index, take}
-use Rattle.std.specs.Prelude.{Option, Some, None, is_some, nat_lt, nat_le, slice_index_or}
+use Rattle.std.specs.Prelude.{Option, Some, None, if◌then◌else◌, is_some, nat_lt, nat_le, slice_index_or}
 use Rattle.std.specs.List.{list_all}
 use Rattle.std.proofs.lemmas.Bool.{cases_Bool, and_parts, and_from, true≢false, lt-ltb, le-leb}
-use Rattle.std.proofs.lemmas.List.{length-map}
+use Rattle.std.proofs.lemmas.List.{length-map, append-nil}
 use Rattle.rf_log.specs.declared.cond.Cond.{Cond}
 use Rattle.rf_log.specs.declared.hint.Hint.{Hint}
 use Rattle.rf_log.specs.declared.hint.Hint.TheVariants.{Earlier, Ban, Rule}
@@ -20,10 +20,10 @@ use Rattle.rf_log.proofs.Kept.{some_when}
 use Rattle.rf_domain.specs.Sets as sets
 use Rattle.rf_trail.specs.declared.entry.Entry.{Entry}
 use Rattle.rf_trail.specs.Trace.{has_of}
-use Rattle.rf_propagate.specs.Laws.{IsJustified, IsOwn, Extends, same, more}
-use Rattle.rf_search.specs.Paths.{Grown, start, decide, because, hint_in, hints_of, IsLineOf}
+use Rattle.rf_propagate.specs.Laws.{IsJustified, IsOwn}
+use Rattle.rf_search.specs.Paths.{Grown, start, decide, because, hint_in, hints_for, IsLineOf}
 use Rattle.rf_search.proofs.Sizes.{size_is}
-use Rattle.rf_search.proofs.WholeTrail.{hints_decided, whole_trail}
+use Rattle.rf_search.proofs.WholeTrail.{hints_decided}
 use Rattle.rf_search.proofs.Pushed.{up-valid}
 use Rattle.rf_log.specs.Relations.{members, IsEmptied}
 use Rattle.rf_log.specs.Box.{has_none, each_below}
@@ -35,10 +35,6 @@ use Rattle.std.proofs.lemmas.Bool.{not_from_false}
 -- what one look-up finds, the other finds
 pub record Agrees (first second : ℕ → Option (List Cond)) : Type 0 where
   pub each : (n : ℕ) (conds : List Cond) → first n ≡ Some conds → second n ≡ Some conds
-
-pub grown-on : {case : Case} {lines : List Line} {path : List Cond} {es fs : List Entry} → Grown case lines path es → Extends case lines es fs → Grown case lines path fs
-grown-on grown same = grown
-grown-on grown (more wider why) = because (grown-on grown wider) why
 
 pub past_size : (ns : List ℕ) (c k : ℕ) → k < slice_index_or ns c 0 → c < length ns
 past_size [] c k low = absurd (omega arith)
@@ -104,14 +100,19 @@ hint_known case lines log es e agrees why = by_hint why.hint why.works why.own
         let r = known_range case c lo hi ordered low in
         and_from (list_all (λ c. nat_lt c (length case.carriers)) (take (roles_of kind) roles)) _ known (and_from (fits case c lo hi) _ r.1 refl)
 
-pub hints_known : (case : Case) (lines : List Line) (log : List LogLine) {path : List Cond} {es : List Entry} → Agrees (line_at lines) (nogood_at log) → Grown case lines path es
-    → list_all (is_known case log) (hints_of es) ≡ true
-hints_known case lines log agrees start = refl
-hints_known case lines log agrees (decide {path} {es} {cond} grown ordered known) =
-    ap (list_all (is_known case log)) (hints_decided cond (sets.size_of (counts_of case) cond.carrier) es) ∙ hints_known case lines log agrees grown
-hints_known case lines log agrees (because {path} {es} {e} grown why) =
-    ap (λ h. list_all (is_known case log) (hints_of es ++ hint_in h)) why.is
-    ∙ all_push (is_known case log) (hints_of es) why.hint (hints_known case lines log agrees grown) (hint_known case lines log es e agrees why)
+all_push_if : {A : Type 0} (p : A → Bool) (xs : List A) (x : A) (keep : Bool) → list_all p xs ≡ true → p x ≡ true
+    → list_all p (xs ++ (if keep then x ∷ [] else [])) ≡ true
+all_push_if p xs x true all here = all_push p xs x all here
+all_push_if p xs x false all here = ap (list_all p) (append-nil xs) ∙ all
+
+pub hints_known : (case : Case) (lines : List Line) (log : List LogLine) (keep : ℕ → Bool) {path : List Cond} {es : List Entry}
+    → Agrees (line_at lines) (nogood_at log) → Grown case lines path es → list_all (is_known case log) (hints_for keep es) ≡ true
+hints_known case lines log keep agrees start = refl
+hints_known case lines log keep agrees (decide {path} {es} {cond} grown ordered known) =
+    ap (list_all (is_known case log)) (hints_decided keep cond (sets.size_of (counts_of case) cond.carrier) es) ∙ hints_known case lines log keep agrees grown
+hints_known case lines log keep agrees (because {path} {es} {e} grown why) =
+    ap (λ h. list_all (is_known case log) (hints_for keep es ++ (if keep e.carrier then hint_in h else []))) why.is
+    ∙ all_push_if (is_known case log) (hints_for keep es) why.hint (keep e.carrier) (hints_known case lines log keep agrees grown) (hint_known case lines log es e agrees why)
 
 all_three : (case : Case) (log : List LogLine) (hs : List Hint) → list_all (is_known case log) hs ≡ true
     → (list_all (knows_hint case) hs ≡ true) × (list_all (fits_hint case) hs ≡ true) × (list_all (finds_line log) hs ≡ true)
@@ -166,14 +167,3 @@ pub names_line : (case : Case) (log : List LogLine) (path : List Cond) (hints : 
     → cause_of case (log ++ line ∷ []) (Some path) (Up (length log + 1)) ≡ None
 names_line case log path hints line is =
     up-valid case log line path path (conds_of path hints line is) (λ c k here. (and_parts (nat_lt k (count_of case c)) _ here).1)
-
-pub whole_valid : (case : Case) (log : List LogLine) (path : List Cond) (before now : List Entry) (line : LogLine) (c : ℕ)
-    → Grown case [] path before → is_dead case (has_of (counts_of case) before) ≡ false
-    → Extends case [] before now → IsEmptied case (members (has_of (counts_of case) now)) c
-    → IsLineOf path (hints_of now) line → cause_of case log (Some path) line ≡ None
-whole_valid case log path before now line c grown living wider empty is =
-    let all = grown-on grown wider in
-    let known = conds_known case [] all in
-    let none : Agrees (line_at []) (nogood_at log) = record { each = λ n conds e. cc } in
-    line_valid case log path path (hints_of now) line is known.0 known.1 (hints_known case [] log none all)
-    (ap (is_dead_after case) (whole_trail case (nogood_at log) path before now grown living wider) ∙ dead_from case _ c empty)

@@ -124,7 +124,7 @@ all_at p [] i d all low = absurd (omega arith)
 all_at p (x ∷ xs) zero d all low = (and_parts (p x) _ all).0
 all_at p (x ∷ xs) (suc i) d all low = all_at p xs i d (and_parts (p x) _ all).1 (omega arith)
 
-met_on : (path : List Cond) (c k : ℕ) → list_all (is_met_by c k) path ≡ true → (cond : Cond) → Contains path cond → cond.carrier ≡ c → is_met cond k ≡ true
+pub met_on : (path : List Cond) (c k : ℕ) → list_all (is_met_by c k) path ≡ true → (cond : Cond) → Contains path cond → cond.carrier ≡ c → is_met cond k ≡ true
 met_on path c k all cond has is =
     let at : is_met_by c k cond ≡ true = subst (λ (x : Cond). is_met_by c k x ≡ true) has.2 (all_at (is_met_by c k) path has.0 cond all has.1) in
     implied (cond.carrier == c) (is_met cond k) at (eq-eqb cond.carrier c is)

@@ -12,7 +12,7 @@ use Rattle.rf_log.specs.declared.line.LogLine.TheVariants.{Nogood, Branch, Up}
 use Rattle.rf_log.specs.declared.line.Cut.TheVariants.{Fix}
 use Rattle.rf_log.specs.Case.{Case, counts_of, count_of}
 use Rattle.rf_log.specs.Box.{Box, box_of, is_dead, is_met, between}
-use Rattle.rf_log.specs.Hints.{Line, line_at, nogood_at, after_hints_of, is_dead_after}
+use Rattle.rf_log.specs.Hints.{Line, line_at, nogood_at, after_hints_of}
 use Rattle.rf_log.specs.Relations.{members, IsEmptied}
 use Rattle.rf_log.specs.Walk.{cause_of, left_side, turned, is_branch}
 use Rattle.rf_log.specs.Solved.{Ending, IsStarted, IsSolved, IsHonest, is_nogood, planned, refuted, spent}
@@ -34,14 +34,16 @@ use Rattle.rf_search.specs.Out.{IsWritable}
 use Rattle.rf_search.proofs.WritableLemmas.{index_short, conds_writable, hints_writable, line_writable}
 use Rattle.rf_search.specs.Choices.{IsChoice, HaveNoPair, AreSome}
 use Rattle.rf_search.specs.Paths as paths
-use Rattle.rf_search.specs.Paths.{hints_of, IsLineOf}
+use Rattle.rf_search.specs.Paths.{hints_for, hints_of, IsLineOf}
+use Rattle.rf_search.specs.Spared.{AreSpared}
 use Rattle.rf_search.specs.State.{Marked, start, decide, path_of, lefts, IsSplit, IsSearching, AreStarted, IsMarked, IsTurned, IsUnderWay, IsFresh, IsReplayed, effort}
 use Rattle.rf_search.specs.Turns.{IsWhole, IsAtRest, IsRefuted, IsBranched, GoesOn, HasEnded, left_level}
 use Rattle.std.proofs.lemmas.Bool.Decides.{nat_tests}
 use Rattle.rf_search.proofs.Narrow.{Lives}
 use Rattle.rf_search.proofs.Sizes.{size_is}
 use Rattle.rf_search.proofs.WholeTrail.{rest_is, late, whole_trail}
-use Rattle.rf_search.proofs.LineValid.{Agrees, conds_known, hints_known, line_valid, names_line, dead_from}
+use Rattle.rf_search.proofs.LineValid.{Agrees, conds_known, hints_known, line_valid, names_line}
+use Rattle.rf_search.proofs.NeededHints.{dead_after}
 use Rattle.rf_search.proofs.Steps.{marked-grown, marked-on, turned-lefts, lefts-cons, count-push, on_path, honest_from, branch_step, close_step, close_last, decide_lives, living_not_dead}
 use Rattle.rf_search.proofs.Endings.{ends_in_plan, ends_spent}
 use Rattle.rf_search.proofs.Turning.{last_is}
@@ -85,15 +87,15 @@ nogood_line conds hints (Branch cut c k) is = absurd is
 nogood_line conds hints (Up n) is = absurd is
 
 -- the two lines of a closed side have a text
-closed_writable : (case : Case) (search : Search) (line : LogLine) → IsUnderWay case search
-    → IsLineOf (path_of (reverse search.levels.items)) (hints_of search.trail.entries) line
+closed_writable : (case : Case) (search : Search) (keep : ℕ → Bool) (line : LogLine) → IsUnderWay case search
+    → IsLineOf (path_of (reverse search.levels.items)) (hints_for keep search.trail.entries) line
     → All (IsWritable (length case.carriers)) ((search.log.items ++ line ∷ []) ++ Up (length search.log.items + 1) ∷ [])
-closed_writable case search line u is =
+closed_writable case search keep line u is =
     let grown = marked-grown u.trail.marked in
     let P : LogLine → Type 0 = IsWritable (length case.carriers) in
     All-push P (search.log.items ++ line ∷ []) (Up (length search.log.items + 1))
     (All-push P search.log.items line u.writable
-    (line_writable (length case.carriers) (path_of (reverse search.levels.items)) (hints_of search.trail.entries) line is (conds_writable u.small grown) (hints_writable u.small grown)))
+    (line_writable (length case.carriers) (path_of (reverse search.levels.items)) (hints_for keep search.trail.entries) line is (conds_writable u.small grown) (hints_writable keep u.small grown)))
     (omega (arith, u.searching.long, u.searching.balanced, u.searching.started.within, u.bounded))
 
 no_branch : (log : List LogLine) (conds : List Cond) (hints : List Hint) (line : LogLine) (n : ℕ) → IsLineOf conds hints line
@@ -105,19 +107,21 @@ no_branch log conds hints (Nogood cs hs) n is =
 no_branch log conds hints (Branch cut c k) n is = absurd is
 no_branch log conds hints (Up m) n is = absurd is
 
-replayed_valid : (case : Case) (search : Search) (line : LogLine) (c : ℕ) → IsUnderWay case search → IsReplayed case search
+replayed_valid : (case : Case) (search : Search) (keep : ℕ → Bool) (line : LogLine) (c : ℕ) → IsUnderWay case search → IsReplayed case search
     → IsEmptied case (trace.box_of search.trail) c
-    → IsLineOf (path_of (reverse search.levels.items)) (hints_of search.trail.entries) line
+    → AreSpared (path_of (reverse search.levels.items)) (has_of search.trail.counts search.trail.entries) keep
+    → IsLineOf (path_of (reverse search.levels.items)) (hints_for keep search.trail.entries) line
     → cause_of case search.log.items (Some (path_of (reverse search.levels.items))) line ≡ None
-replayed_valid case search line c u replayed empty is =
+replayed_valid case search keep line c u replayed empty spared is =
     let path = path_of (reverse search.levels.items) in
     let grown = marked-grown u.trail.marked in
     let known = conds_known case [] grown in
     let none : Agrees (line_at []) (nogood_at search.log.items) = record { each = λ n conds e. cc } in
     let emptied : IsEmptied case (members (has_of (counts_of case) search.trail.entries)) c
     = subst (λ (ns : List ℕ). IsEmptied case (members (has_of ns search.trail.entries)) c) u.trail.counts empty in
-    line_valid case search.log.items path path (hints_of search.trail.entries) line is known.0 known.1 (hints_known case [] search.log.items none grown)
-    (ap (is_dead_after case) (replayed.each (nogood_at search.log.items)) ∙ dead_from case _ c emptied)
+    let others : AreSpared path (has_of (counts_of case) search.trail.entries) keep = subst (λ (ns : List ℕ). AreSpared path (has_of ns search.trail.entries) keep) u.trail.counts spared in
+    line_valid case search.log.items path path (hints_for keep search.trail.entries) line is known.0 known.1 (hints_known case [] search.log.items keep none grown)
+    (dead_after case (nogood_at search.log.items) keep path (has_of (counts_of case) search.trail.entries) c others grown (replayed.each (line_at [])) emptied)
 
 -- a side is closed, and the last left side is turned
 pub closed_turn : (case : Case) (old mid new : Search) (c : ℕ) → IsUnderWay case old → IsReplayed case old → IsEmptied case (trace.box_of old.trail) c
@@ -130,8 +134,8 @@ closed_turn case old mid new c u replayed empty refuted_ turn log budget branche
     let log_is : new.log.items ≡ (old.log.items ++ line ∷ []) ++ Up (length old.log.items + 1) ∷ [] = ap (λ v. v.items) log ∙ refuted_.log in
     let turns : turned path ≡ Some next = ap (λ v. turned (path_of (reverse v.items))) (sym refuted_.levels) ∙ turn.turned in
     let step : IsSearching case old.budget ((old.log.items ++ line ∷ []) ++ Up (length old.log.items + 1) ∷ []) next
-    = close_step case old.budget old.log.items path line (length old.log.items + 1) u.searching (nogood_line path (hints_of old.trail.entries) line refuted_.is)
-    (replayed_valid case old line c u replayed empty refuted_.is) (names_line case old.log.items path (hints_of old.trail.entries) line refuted_.is) next turns in
+    = close_step case old.budget old.log.items path line (length old.log.items + 1) u.searching (nogood_line path (hints_for refuted_.keep old.trail.entries) line refuted_.is)
+    (replayed_valid case old refuted_.keep line c u replayed empty refuted_.spared refuted_.is) (names_line case old.log.items path (hints_for refuted_.keep old.trail.entries) line refuted_.is) next turns in
     let budget_is : new.budget ≡ old.budget = budget ∙ refuted_.budget in
     let branches_is : new.branches ≡ old.branches = branches ∙ refuted_.branches in
     let searching : IsSearching case new.budget new.log.items next
@@ -143,8 +147,8 @@ closed_turn case old mid new c u replayed empty refuted_ turn log budget branche
         small = u.small;
         bounded = subst (λ (n : ℕ). n ≤ MAX_BUDGET) (sym budget_is) u.bounded;
         searching = searching;
-        counted = branches_is ∙ u.counted ∙ sym (ap (count_by is_branch) log_is ∙ no_branch old.log.items path (hints_of old.trail.entries) line (length old.log.items + 1) refuted_.is);
-        writable = subst (λ (ls : List LogLine). All (IsWritable (length case.carriers)) ls) (sym log_is) (closed_writable case old line u refuted_.is);
+        counted = branches_is ∙ u.counted ∙ sym (ap (count_by is_branch) log_is ∙ no_branch old.log.items path (hints_for refuted_.keep old.trail.entries) line (length old.log.items + 1) refuted_.is);
+        writable = subst (λ (ls : List LogLine). All (IsWritable (length case.carriers)) ls) (sym log_is) (closed_writable case old refuted_.keep line u refuted_.is);
       };
       fresh = inl turn.living;
       less = less new.budget new.branches old.budget old.branches (lefts next) (lefts path) budget_is branches_is fewer;
@@ -162,14 +166,14 @@ closed_last case old mid new c u replayed empty refuted_ turns log budget =
     let log_is : new.log.items ≡ (old.log.items ++ line ∷ []) ++ Up (length old.log.items + 1) ∷ [] = ap (λ v. v.items) log ∙ refuted_.log in
     let budget_is : new.budget ≡ old.budget = budget ∙ refuted_.budget in
     let turns' : turned path ≡ None = ap (λ v. turned (path_of (reverse v.items))) (sym refuted_.levels) ∙ turns in
-    let both = close_last case old.budget old.log.items path line (length old.log.items + 1) u.searching (nogood_line path (hints_of old.trail.entries) line refuted_.is)
-    (replayed_valid case old line c u replayed empty refuted_.is) (names_line case old.log.items path (hints_of old.trail.entries) line refuted_.is) turns' in
+    let both = close_last case old.budget old.log.items path line (length old.log.items + 1) u.searching (nogood_line path (hints_for refuted_.keep old.trail.entries) line refuted_.is)
+    (replayed_valid case old refuted_.keep line c u replayed empty refuted_.spared refuted_.is) (names_line case old.log.items path (hints_for refuted_.keep old.trail.entries) line refuted_.is) turns' in
     record {
       solved = subst (λ (ls : List LogLine). IsSolved case new.budget ls refuted) (sym log_is)
           (subst (λ (n : ℕ). IsSolved case n ((old.log.items ++ line ∷ []) ++ Up (length old.log.items + 1) ∷ []) refuted) (sym budget_is) both.0);
       parts = subst (λ (ls : List LogLine). AreStarted case new.budget ls) (sym log_is)
           (subst (λ (n : ℕ). AreStarted case n ((old.log.items ++ line ∷ []) ++ Up (length old.log.items + 1) ∷ [])) (sym budget_is) both.1);
-      writable = subst (λ (ls : List LogLine). All (IsWritable (length case.carriers)) ls) (sym log_is) (closed_writable case old line u refuted_.is);
+      writable = subst (λ (ls : List LogLine). All (IsWritable (length case.carriers)) ls) (sym log_is) (closed_writable case old refuted_.keep line u refuted_.is);
     }
 
 met_alone : (k : ℕ) → between k k k ≡ true

@@ -1,8 +1,9 @@
 -- Each line of a search has a text.
-use Rattle.std.proofs.Common.{◌≡◌, ℕ, zero, suc, ◌<◌, ◌≤◌, List, [], ◌∷◌, ◌++◌, length, take, get_or, true, sym, subst, arith, slice_index}
-use Rattle.std.specs.Prelude.{All, Option, Some, nat_lt, nat_le}
+use Rattle.std.proofs.Common.{◌≡◌, ℕ, zero, suc, ◌<◌, ◌≤◌, List, [], ◌∷◌, ◌++◌, length, take, get_or, Bool, true, false, sym, subst, arith, slice_index}
+use Rattle.std.specs.Prelude.{All, Option, Some, if◌then◌else◌, nat_lt, nat_le}
 use Rattle.std.specs.List.{list_all}
 use Rattle.std.proofs.lemmas.Bool.{and_parts, ltb-true, leb-true}
+use Rattle.std.proofs.lemmas.List.{append-nil}
 use Rattle.std.proofs.lemmas.List.Elements.{All-nil, All-cons, All-push, All-get_or}
 use Rattle.rf_terms.specs.Kinds.{roles_of}
 use Rattle.rf_log.specs.declared.cond.Cond.{Cond}
@@ -21,7 +22,7 @@ use Rattle.rf_trail.specs.Trace.{has_of}
 use Rattle.rf_propagate.specs.Laws.{IsJustified, IsOwn}
 use Rattle.rf_search.specs.declared.limits.TheConstants.{MAX_NUMBER}
 use Rattle.rf_search.specs.Out.{IsCondOf, IsHintOf, IsWritable}
-use Rattle.rf_search.specs.Paths.{Grown, start, decide, because, hints_of, hint_in, IsLineOf}
+use Rattle.rf_search.specs.Paths.{Grown, start, decide, because, hints_for, hint_in, IsLineOf}
 use Rattle.rf_search.proofs.LineValid.{past_size}
 use Rattle.rf_search.proofs.WholeTrail.{hints_decided}
 
@@ -70,14 +71,18 @@ hint_writable case es e small why = by_hint why.hint why.works why.own
           (omega (arith, own.1, why.ordered, at.1), omega (arith, own.2, at.1)),
         )
 
-pub hints_writable : {case : Case} {path : List Cond} {es : List Entry} → AreCounts (counts_of case) → Grown case [] path es
-    → All (IsHintOf (length case.carriers)) (hints_of es)
-hints_writable {case} small start = All-nil (IsHintOf (length case.carriers))
-hints_writable {case} small (decide {path} {es} {cond} grown ordered known) =
-    subst (λ (hs : List Hint). All (IsHintOf (length case.carriers)) hs) (sym (hints_decided cond (size_of (counts_of case) cond.carrier) es)) (hints_writable small grown)
-hints_writable {case} small (because {path} {es} {e} grown why) =
-    subst (λ (h : Option Hint). All (IsHintOf (length case.carriers)) (hints_of es ++ hint_in h)) (sym why.is)
-    (All-push (IsHintOf (length case.carriers)) (hints_of es) why.hint (hints_writable small grown) (hint_writable case es e small why))
+All-push_if : {A : Type 0} (P : A → Type 0) (xs : List A) (x : A) (keep : Bool) → All P xs → P x → All P (xs ++ (if keep then x ∷ [] else []))
+All-push_if {A = A} P xs x true all here = All-push P xs x all here
+All-push_if {A = A} P xs x false all here = subst (λ (ys : List A). All P ys) (sym (append-nil xs)) all
+
+pub hints_writable : {case : Case} (keep : ℕ → Bool) {path : List Cond} {es : List Entry} → AreCounts (counts_of case) → Grown case [] path es
+    → All (IsHintOf (length case.carriers)) (hints_for keep es)
+hints_writable {case} keep small start = All-nil (IsHintOf (length case.carriers))
+hints_writable {case} keep small (decide {path} {es} {cond} grown ordered known) =
+    subst (λ (hs : List Hint). All (IsHintOf (length case.carriers)) hs) (sym (hints_decided keep cond (size_of (counts_of case) cond.carrier) es)) (hints_writable keep small grown)
+hints_writable {case} keep small (because {path} {es} {e} grown why) =
+    subst (λ (h : Option Hint). All (IsHintOf (length case.carriers)) (hints_for keep es ++ (if keep e.carrier then hint_in h else []))) (sym why.is)
+    (All-push_if (IsHintOf (length case.carriers)) (hints_for keep es) why.hint (keep e.carrier) (hints_writable keep small grown) (hint_writable case es e small why))
 
 pub line_writable : (n : ℕ) (conds : List Cond) (hints : List Hint) (line : LogLine) → IsLineOf conds hints line → All (IsCondOf n) conds → All (IsHintOf n) hints
     → IsWritable n line

@@ -9,13 +9,14 @@ use Rattle.rf_log.specs.Hints.{Line}
 use Rattle.rf_log.specs.Walk.{left_side}
 use Rattle.rf_log.specs.Solved.{Ending, IsSolved}
 use Rattle.rf_domain.specs.Sets.{size_of}
-use Rattle.rf_trail.specs.Trace.{box_of, decided}
+use Rattle.rf_trail.specs.Trace.{has_of, box_of, decided}
 use Rattle.rf_propagate.specs.Laws.{IsQuiet, HasEveryKind, IsClosed}
 use Rattle.rf_search.specs.declared.choice.Choice.{Choice}
 use Rattle.rf_search.specs.declared.level.Level.{Level}
 use Rattle.rf_search.specs.declared.search.Search.{Search}
 use Rattle.rf_search.specs.Out.{IsWritable}
-use Rattle.rf_search.specs.Paths.{hints_of, IsLineOf}
+use Rattle.rf_search.specs.Paths.{hints_for, IsLineOf}
+use Rattle.rf_search.specs.Spared.{AreSpared}
 use Rattle.rf_search.specs.State.{path_of, AreStarted, IsUnderWay, IsFresh, effort}
 
 -- a propagator of every kind and of bans, over a theory without lines
@@ -31,10 +32,12 @@ pub record IsAtRest (case : Case) (search : Search) : Type 0 where
   pub quiet : IsQuiet case kinds true (box_of search.trail)
   pub closed : IsClosed case (path_of (reverse search.levels.items)) (box_of search.trail)
 
--- the path's nogood line with all hints of the trail, and the line that goes up by it, were added
+-- the path's nogood line with the trail's hints on all but spared carriers, and the line that goes up by it, were added
 pub record IsRefuted (old new : Search) : Type 0 where
+  pub keep : ℕ → Bool
+  pub spared : AreSpared (path_of (reverse old.levels.items)) (has_of old.trail.counts old.trail.entries) keep
   pub line : LogLine
-  pub is : IsLineOf (path_of (reverse old.levels.items)) (hints_of old.trail.entries) line
+  pub is : IsLineOf (path_of (reverse old.levels.items)) (hints_for keep old.trail.entries) line
   pub log : new.log.items ≡ (old.log.items ++ line ∷ []) ++ Up (length old.log.items + 1) ∷ []
   pub levels : new.levels ≡ old.levels
   pub trail : new.trail ≡ old.trail

@@ -7,6 +7,7 @@ mod hints;
 mod laws;
 mod level;
 mod limits;
+mod needed;
 mod out;
 mod problem;
 mod run;

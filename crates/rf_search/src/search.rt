@@ -10,6 +10,7 @@ ghost use Rattle.rf_search.specs.Turns.{IsRefuted, IsBranched};
 use crate::choice::Choice;
 use crate::hints::hints_in;
 use crate::level::{Level, conds_in};
+use crate::needed::needed_in;
 use rf_base::{Items, NoMemory};
 use rf_log::{Cond, Cut, LogLine};
 use rf_trail::Trail;
@@ -41,13 +42,14 @@ impl Search {
         }
     }
 
-    /// Adds the nogood line of the path with all hints of the trail, and the line that goes up by it.
+    /// Adds the nogood line of the path with the hints of the trail that it needs, and the line that goes up by it.
     pub fn refute(&mut self, alloc: Global) -> Result<(), NoMemory>
         requires { IsSomewhere self.old }
         ensures { OnOk result (IsRefuted self.old self.new) }
     {
         let conds = conds_in(alloc, self.levels.as_slice())?;
-        let hints = Items::from_vec(hints_in(alloc, &self.trail)?);
+        let needed = needed_in(alloc, self.trail.domains(), conds.as_slice())?;
+        let hints = Items::from_vec(hints_in(alloc, &self.trail, needed.as_slice())?);
         let line = self.log.len() as u32 + 1;
         self.log.push(LogLine::Nogood { conds, hints })?;
         self.log.push(LogLine::Up { line })?;
