@@ -1,3 +1,4 @@
 pub mod ListLemmas
 pub mod LogLemmas
+pub mod Endings
 pub mod PlacingLaws

@@ -1,3 +1,3 @@
 pub mod Solving
-pub mod LogText
+pub mod LogWriter
 pub mod Placing

@@ -1,9 +1,10 @@
 -- What a search of a show comes to.
 use Rattle.std.specs.Prelude.{◌≡◌, ℕ, List, [], ◌∷◌, ◌++◌, Option, Some, None, codes, decimal, length, map, slice_index}
-use Rattle.std.specs.List.{flat_map, range_with_len}
+use Rattle.std.specs.List.{All, flat_map, range_with_len}
 use Rattle.rf_log.specs.Case.{freq_of}
-use Rattle.rf_log.specs.LineTexts.{line_text_of}
-use Rattle.rf_log.specs.Solved.{Ending, IsSolved, planned, refuted, spent}
+use Rattle.rf_log.specs.LineTexts.{IsShortLine, line_text_of}
+use Rattle.rf_log.specs.LogText.{IsLineBelow}
+use Rattle.rf_log.specs.Solved.{Ending, IsStarted, IsSolved, planned, refuted, spent}
 use Rattle.rf_log.specs.declared.line.LogLine.{LogLine}
 use Rattle.rf_show.specs.Show.{ShowData, carrier_names}
 use Rattle.rf_show.specs.Case.{case_of}
@@ -32,11 +33,33 @@ verdict_text show n spent = codes "spent " ++ (decimal n ++ codes "\n")
 abbrev pub log_text : ShowData → List LogLine → List ℕ
 log_text show log = flat_map (line_text_of (carrier_names show.carriers)) log
 
+-- a line over so many carriers that can be written: it is of these carriers, and its numbers are short
+pub record IsWritten (carriers : ℕ) (line : LogLine) : Type 0 where
+  pub known : IsLineBelow carriers line
+  pub short : IsShortLine line
+
+-- A search of a show: it came to this ending with this log, whose lines can be written.
+pub record IsSolvedBy (show : ShowData) (n : ℕ) (ending : Ending) (log : List LogLine) : Type 0 where
+  pub solved : IsSolved (case_of show) n log ending
+  pub written : All (IsWritten (length show.carriers)) log
+
 -- A search of a show: it came to this ending, and to the text of a log and its verdict that a solver owes.
 pub record IsSearch (show : ShowData) (n : ℕ) (ending : Ending) (text : List ℕ) : Type 0 where
   pub log : List LogLine
   pub solved : IsSolved (case_of show) n log ending
+  pub written : All (IsWritten (length show.carriers)) log
   pub is : text ≡ log_text show log ++ verdict_text show n ending
+
+-- The text of a log that a search was writing: its lines are valid, its branchings honest and within the budget.
+pub record IsBegun (show : ShowData) (n : ℕ) (text : List ℕ) : Type 0 where
+  pub log : List LogLine
+  pub started : IsStarted (case_of show) n log
+  pub is : text ≡ log_text show log
+
+-- A search that has written this log, and to which this verdict belongs.
+pub record IsEnded (show : ShowData) (n : ℕ) (ending : Ending) (log verdict : List ℕ) : Type 0 where
+  pub begun : IsBegun show n log
+  pub whole : IsSearch show n ending (log ++ verdict)
 
 -- what a plan is applied as: a frequency for each carrier
 abbrev pub plan_ats : ShowData → Ending → Option (List (Option ℕ))

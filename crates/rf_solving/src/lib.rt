@@ -1,7 +1,7 @@
-//! What a search of a show comes to: the text of its log, its verdict, and the frequencies of a plan.
+//! What a search of a show comes to: its log, which is written line by line, its verdict, and the frequencies of a plan.
 #![tactic(auto)]
 
-mod log_text;
+mod log_writer;
 mod names;
 mod placing;
 mod plan;
@@ -10,4 +10,5 @@ mod solving;
 mod tests;
 
 pub use placing::{plan_is_admitted, plan_is_in_khz};
-pub use solving::{Outcome, solve_show};
+pub use rf_search::SolveFault;
+pub use solving::{Found, write_search};

@@ -1,63 +1,105 @@
-ghost use Rattle.std.specs.Prelude.{◌≡◌, ◌≤◌, ◌++◌, ℕ, List, IfOk, OnOk, length, string_bytes};
+ghost use Rattle.std.specs.Prelude.{◌≡◌, ◌≤◌, ℕ, List, Err, IfOk};
+ghost use Rattle.std.specs.Io.KnownBytes.{Appends};
+ghost use Rattle.rf_base.specs.Cause.{Rose};
+ghost use Rattle.rf_base.specs.Piece.{AppendsPrefix};
 ghost use Rattle.rf_log.specs.Case.{IsPlan};
 ghost use Rattle.rf_log.specs.Solved.{Ending, planned};
+ghost use Rattle.rf_log.specs.declared.line.LogLine.{LogLine};
 ghost use Rattle.rf_search.specs.Answers.{ending_of};
 ghost use Rattle.rf_search.specs.declared.limits.TheConstants.{MAX_BUDGET};
 ghost use Rattle.rf_show.specs.Case.{case_of};
 ghost use Rattle.rf_show.specs.Show.{carrier_names};
 ghost use Rattle.rf_solving.specs.Solving as spec;
 
-use crate::log_text::LogText;
+use crate::log_writer::LogWriter;
 use crate::names::names_of;
 use crate::plan::{ats_of, plan_freqs, write_ats};
 use rf_active::problem_of;
-use rf_base::{Items, Khz, Name, NoMemory};
+use rf_base::{Items, Khz, Name, NoMemory, Sink};
 use rf_search::{Answer, SolveFault, solve};
 use rf_show::{Show, case_is_asked};
 use std::alloc::Global;
 
-/// What a search of a show came to: the text of its log and its verdict; and where it found a plan, a frequency for each
-/// carrier.
+/// What a search of a show came to: the text of its verdict; and where it found a plan, a frequency for each carrier.
 #[derive(Debug, Drop)]
-pub struct Outcome {
-    pub text: Items<u8>,
+pub struct Found {
+    pub verdict: Items<u8>,
     pub ats: Option<Items<Option<Khz>>>,
 }
 
-/// Searches for a plan of a show with at most `budget` branchings, at most 20,000. `NoMemory` where no memory is found.
-pub fn solve_show(alloc: Global, show: &Show, budget: u32) -> Result<Outcome, NoMemory>
+/// Searches for a plan of a show with at most `budget` branchings, at most 20,000, and writes the log to the output. The
+/// verdict is answered, and isn't written.
+///
+/// - `LogFault`: the output failed; its count of faults has risen. A part of the log is written.
+/// - `Memory`: no memory was found. Whole lines of the log are written.
+pub fn write_search<O: Sink>(
+    alloc: Global,
+    show: &Show,
+    budget: u32,
+    output: &mut O,
+) -> Result<Found, SolveFault>
     requires { budget ≤ MAX_BUDGET }
-    ensures { IfOk result (λ found. (ending : Ending) × spec.IsSearch show.now budget ending found.text × (found.ats ≡ spec.plan_ats show.now ending)) }
+    ensures found { IfOk result (λ found. (ending : Ending) × (log : List ℕ) × Appends (O.contents output.old) (O.contents output.new) log
+        × spec.IsEnded show.now budget ending log found.verdict × (found.ats ≡ spec.plan_ats show.now ending)) }
+    ensures failed { result ≡ Err SolveFault.LogFault → (log : List ℕ) × AppendsPrefix (O.contents output.old) (O.contents output.new) log
+        × spec.IsBegun show.now budget log }
+    ensures memory { result ≡ Err SolveFault.Memory → (log : List ℕ) × Appends (O.contents output.old) (O.contents output.new) log
+        × spec.IsBegun show.now budget log }
+    ensures cause { result ≡ Err SolveFault.LogFault → Rose (O.faults output.old) (O.faults output.new) }
+    ensures later { O.faults output.old ≤ O.faults output.new }
 {
-    case_is_asked();
-    let problem = problem_of(alloc, show)?;
-    let names = names_of(alloc, show.carriers())?;
-    let mut log = LogText::new(alloc, names.as_slice());
-    match solve(alloc, &problem, budget, &mut log) {
-        Ok(answer) => outcome_of(
-            alloc,
-            show,
-            names.as_slice(),
-            budget,
-            log.into_text(),
-            answer,
-        ),
-        Err(SolveFault::Memory) | Err(SolveFault::LogFault) => Err(NoMemory),
+    let Ok(names) = names_of(alloc, show.carriers()) else {
+        return Err(SolveFault::Memory);
+    };
+    let answer = write_log(alloc, show, names.as_slice(), budget, output)?;
+    match found_of(alloc, show, names.as_slice(), budget, answer) {
+        Ok(found) => Ok(found),
+        Err(NoMemory) => Err(SolveFault::Memory),
     }
 }
 
-// The outcome after the text of a log.
-fn outcome_of(
+// Writes the log of a search over the carriers of these names.
+fn write_log<O: Sink>(
     alloc: Global,
     show: &Show,
     names: &[Name],
     budget: u32,
-    log: Vec<u8>,
+    output: &mut O,
+) -> Result<Answer, SolveFault>
+    requires names { names.now ≡ carrier_names show.now.carriers }
+    requires budget { budget ≤ MAX_BUDGET }
+    ensures solved { IfOk result (λ answer. (log : List LogLine) × Appends (O.contents output.old) (O.contents output.new) (spec.log_text show.now log)
+        × spec.IsSolvedBy show.now budget (ending_of answer) log) }
+    ensures failed { result ≡ Err SolveFault.LogFault → (log : List ℕ) × AppendsPrefix (O.contents output.old) (O.contents output.new) log
+        × spec.IsBegun show.now budget log }
+    ensures memory { result ≡ Err SolveFault.Memory → (log : List ℕ) × Appends (O.contents output.old) (O.contents output.new) log
+        × spec.IsBegun show.now budget log }
+    ensures cause { result ≡ Err SolveFault.LogFault → Rose (O.faults output.old) (O.faults output.new) }
+    ensures later { O.faults output.old ≤ O.faults output.new }
+{
+    case_is_asked();
+    let Ok(problem) = problem_of(alloc, show) else {
+        return Err(SolveFault::Memory);
+    };
+    let mut log = LogWriter {
+        alloc,
+        names,
+        sink: output,
+    };
+    solve(alloc, &problem, budget, &mut log)
+}
+
+// The verdict of an answer.
+fn found_of(
+    alloc: Global,
+    show: &Show,
+    names: &[Name],
+    budget: u32,
     answer: Answer,
-) -> Result<Outcome, NoMemory>
+) -> Result<Found, NoMemory>
     requires names { names.now ≡ carrier_names show.now.carriers }
     requires plan { (plan : List ℕ) → ending_of answer ≡ planned plan → IsPlan (case_of show.now) plan }
-    ensures text { IfOk result (λ found. found.text ≡ log.items ++ spec.verdict_text show.now budget (ending_of answer)) }
+    ensures verdict { IfOk result (λ found. found.verdict ≡ spec.verdict_text show.now budget (ending_of answer)) }
     ensures ats { IfOk result (λ found. found.ats ≡ spec.plan_ats show.now (ending_of answer)) }
 {
     let mut verdict = String::new(alloc);
@@ -72,10 +114,8 @@ fn outcome_of(
         Answer::Refuted => writeln!(verdict, "refuted")?,
         Answer::Spent => writeln!(verdict, "spent {budget}")?,
     }
-    let mut text = log;
-    text.extend_from_slice(verdict.as_bytes())?;
-    Ok(Outcome {
-        text: Items::from_vec(text),
+    Ok(Found {
+        verdict: Items::from_vec(verdict.into_bytes()),
         ats,
     })
 }

@@ -1,6 +1,9 @@
 //! What a search of small shows comes to, worked out by hand.
-use crate::solve_show;
-use rf_base::{Khz, Name};
+ghost use Rattle.std.specs.Prelude.{◌≤◌};
+ghost use Rattle.rf_search.specs.declared.limits.TheConstants.{MAX_BUDGET};
+
+use crate::{Found, SolveFault, write_search};
+use rf_base::{Khz, MemSink, Name};
 use rf_show::{Edit, Show};
 use std::alloc::Global;
 use std::test::Fail;
@@ -31,13 +34,31 @@ fn show_of(alloc: Global, names: &[Name]) -> Option<Show> {
     Some(show)
 }
 
+// The frequencies of a plan.
+type Ats = Option<Vec<Option<Khz>>>;
+
+// What a search writes and then answers as its verdict, and the frequencies of its plan.
+fn searched(alloc: Global, show: &Show, budget: u32) -> Result<(Vec<u8>, Ats), Fail>
+    requires { budget ≤ MAX_BUDGET }
+{
+    let Ok(mut sink) = MemSink::new(alloc, 1000, 1000, Vec::new(alloc)) else {
+        return Err(Fail::from("no memory"));
+    };
+    let Found { verdict, ats } = write_search(alloc, show, budget, &mut sink)?;
+    let mut text = sink.bytes().to_vec(alloc)?;
+    text.extend_from_slice(verdict.as_slice())?;
+    match ats {
+        Some(ats) => Ok((text, Some(ats.into_vec()))),
+        None => Ok((text, None)),
+    }
+}
+
 #[test]
 fn no_carrier_has_the_empty_plan(rt: HostRuntime) -> Result<(), Fail> {
     let show = show_of(rt.alloc(), &[]).ok_or("a show")?;
-    let found = solve_show(rt.alloc(), &show, 0)?;
-    assert_eq!(rt; found.text.as_slice(), b"plan\n".as_slice());
-    let ats = found.ats.ok_or("a plan")?;
-    assert!(rt; ats.as_slice().is_empty());
+    let (text, ats) = searched(rt.alloc(), &show, 0)?;
+    assert_eq!(rt; text.as_slice(), b"plan\n".as_slice());
+    assert!(rt; ats.ok_or("a plan")?.is_empty());
     Ok(())
 }
 
@@ -45,13 +66,12 @@ fn no_carrier_has_the_empty_plan(rt: HostRuntime) -> Result<(), Fail> {
 fn one_carrier_is_branched_and_planned(rt: HostRuntime) -> Result<(), Fail> {
     let a = Name::read(b"a").ok_or("a name")?;
     let show = show_of(rt.alloc(), &[a]).ok_or("a show")?;
-    let found = solve_show(rt.alloc(), &show, 1)?;
+    let (text, ats) = searched(rt.alloc(), &show, 1)?;
     assert_eq!(rt;
-        found.text.as_slice(),
+        text.as_slice(),
         b"b fix a 0\nplan\nat a 500000\n".as_slice()
     );
-    let ats = found.ats.ok_or("a plan")?;
-    assert!(rt; ats.as_slice() == [Khz::new(500_000)].as_slice());
+    assert!(rt; ats.ok_or("a plan")?.as_slice() == [Khz::new(500_000)].as_slice());
     Ok(())
 }
 
@@ -60,11 +80,26 @@ fn two_carriers_too_near_are_refuted_by_one_branching(rt: HostRuntime) -> Result
     let a = Name::read(b"a").ok_or("a name")?;
     let b = Name::read(b"b").ok_or("a name")?;
     let show = show_of(rt.alloc(), &[a, b]).ok_or("a show")?;
-    let none = solve_show(rt.alloc(), &show, 0)?;
-    assert_eq!(rt; none.text.as_slice(), b"spent 0\n".as_slice());
-    assert!(rt; none.ats.is_none());
-    let one = solve_show(rt.alloc(), &show, 1)?;
-    assert!(rt; one.text.as_slice().ends_with(b"refuted\n"));
-    assert!(rt; one.ats.is_none());
+    let (text, ats) = searched(rt.alloc(), &show, 0)?;
+    assert_eq!(rt; text.as_slice(), b"spent 0\n".as_slice());
+    assert!(rt; ats.is_none());
+    let (text, ats) = searched(rt.alloc(), &show, 1)?;
+    assert!(rt; text.as_slice().ends_with(b"refuted\n"));
+    assert!(rt; ats.is_none());
+    Ok(())
+}
+
+#[test]
+fn a_sink_without_room_holds_a_part_of_the_log(rt: HostRuntime) -> Result<(), Fail> {
+    let a = Name::read(b"a").ok_or("a name")?;
+    let show = show_of(rt.alloc(), &[a]).ok_or("a show")?;
+    let Ok(mut sink) = MemSink::new(rt.alloc(), 4, 1, Vec::new(rt.alloc())) else {
+        return Err(Fail::from("no memory"));
+    };
+    match write_search(rt.alloc(), &show, 1, &mut sink) {
+        Err(SolveFault::LogFault) => {}
+        _ => return Err(Fail::from("the sink has no room")),
+    }
+    assert_eq!(rt; sink.bytes(), b"b fi".as_slice());
     Ok(())
 }

@@ -6,7 +6,7 @@ use Rattle.rf_log.specs.Case.{freq_of}
 use Rattle.rf_show.specs.Case.{case_of}
 use Rattle.rf_show.specs.Show.{ShowData, carrier_names}
 use Rattle.rf_solving.specs.Solving.{plan_freqs}
-use Rattle.rf_solving.proofs.solving.outcome_of.Goals as goal
+use Rattle.rf_solving.proofs.solving.found_of.Goals as goal
 
 -- there is a frequency for each name
 each_has_one : (show : ShowData) (plan : List ℕ) (names : List (List ℕ)) (freqs : List ℕ) → names ≡ carrier_names show.carriers → freqs ≡ plan_freqs show plan

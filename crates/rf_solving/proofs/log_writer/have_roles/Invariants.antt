@@ -1,7 +1,7 @@
 use Rattle.std.proofs.Common.{take}
 use Rattle.std.specs.Prelude.{All}
-use Rattle.rf_solving.specs.LogText.{HasRoles}
-use Rattle.rf_solving.proofs.log_text.have_roles.Given as goal
+use Rattle.rf_solving.specs.LogWriter.{HasRoles}
+use Rattle.rf_solving.proofs.log_writer.have_roles.Given as goal
 
 abbrev pub invariant-loop-hint : goal.invariant-loop-hint
 invariant-loop-hint l = All HasRoles (take l.hint-index l.hints)
