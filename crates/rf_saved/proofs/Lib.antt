@@ -1,0 +1,4 @@
+pub mod ListLemmas
+pub mod Trimmed
+pub mod Carried
+pub mod Accepted
