@@ -1,6 +1,10 @@
+use crate::word::Word;
+
 /// What the words of the command line ask for.
-#[derive(Clone, Copy, Debug, PartialEq, Eq)]
+#[derive(Debug, Drop)]
 pub enum Asked {
     /// A session over the input.
     Session,
+    /// The judgement of the log in the file `log` over the show that the lines of the file `show` make.
+    Check { show: Word, log: Word },
 }

@@ -2,9 +2,11 @@
 #![tactic(auto)]
 
 mod asked;
+mod word;
 mod words;
 
 pub use asked::Asked;
+pub use word::Word;
 pub use words::{WordsFault, read_words};
 
 #[cfg(test)]

@@ -3,14 +3,17 @@ use std::alloc::Global;
 use std::test::Fail;
 
 /// What these words ask for, which stand between semicolons.
-fn asked(alloc: Global, text: &str) -> Result<Option<Asked>, Fail> {
+fn asked(alloc: Global, text: &str) -> Result<String, Fail> {
     let mut words = Vec::new(alloc);
     for word in text.split(';') {
         words.push(String::from_str(alloc, word)?)?;
     }
     match read_words(alloc, words.as_slice()) {
-        Ok(asked) => Ok(Some(asked)),
-        Err(WordsFault::Usage) => Ok(None),
+        Ok(Asked::Session) => Ok(String::from_str(alloc, "session")?),
+        Ok(Asked::Check { show, log }) => {
+            Ok(format!(in alloc; "check {} {}", show.as_str(), log.as_str())?)
+        }
+        Err(WordsFault::Usage) => Ok(String::from_str(alloc, "usage")?),
         Err(WordsFault::Memory) => Err(Fail::from("no memory")),
     }
 }
@@ -18,18 +21,31 @@ fn asked(alloc: Global, text: &str) -> Result<Option<Asked>, Fail> {
 #[test]
 fn reads_the_words_of_commands(rt: HostRuntime) -> Result<(), Fail> {
     for (text, wanted) in [
-        ("session", Some(Asked::Session)),
-        ("", None),
-        ("sessions", None),
-        ("session;x", None),
-        ("-h", None),
-        ("--help", None),
-        ("help", None),
-        ("--version", None),
-        ("session;-h", None),
-        ("check;x", None),
+        ("session", "session"),
+        ("check;x;y", "check x y"),
+        ("check;show.txt;a-b", "check show.txt a-b"),
+        ("check;--;x;y", "check x y"),
+        ("check;x;--;y", "check x y"),
+        ("", "usage"),
+        ("sessions", "usage"),
+        ("session;x", "usage"),
+        ("-h", "usage"),
+        ("--help", "usage"),
+        ("help", "usage"),
+        ("--version", "usage"),
+        ("session;-h", "usage"),
+        ("check", "usage"),
+        ("check;x", "usage"),
+        ("check;x;y;z", "usage"),
+        ("check;;y", "usage"),
+        ("check;x;", "usage"),
+        ("check;-x;y", "usage"),
+        ("check;x;-", "usage"),
+        ("check;--;-x;y", "usage"),
+        ("check;--help", "usage"),
+        ("demo;1;1", "usage"),
     ] {
-        assert!(rt; asked(rt.alloc(), text)? == wanted);
+        assert!(rt; asked(rt.alloc(), text)?.as_str() == wanted);
     }
     match read_words(rt.alloc(), Vec::new(rt.alloc()).as_slice()) {
         Err(WordsFault::Usage) => Ok(()),

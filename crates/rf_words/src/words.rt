@@ -1,10 +1,12 @@
-ghost use Rattle.std.specs.Prelude.{◌≡◌, ◌≢◌, Some, None, IfOk, IfErr, map, string_bytes, option_map};
-ghost use Rattle.clap.specs.Words.{app_of, subcommand_rows_of};
+ghost use Rattle.std.specs.Prelude.{◌≡◌, ◌≢◌, Some, None, IfOk, IfErr, map, string_bytes, option_map, false};
+ghost use Rattle.clap.specs.Words.{app_of, first_of, found_of, rows_of, rule_of, subcommand_rows_of};
+ghost use Rattle.clap.specs.declared.builder.Command.TheViews.{out-Command};
 ghost use Rattle.rf_words.specs.Words as spec;
 
 use crate::asked::Asked;
+use crate::word::Word;
 use clap::error::ErrorKind;
-use clap::{ArgMatches, Command};
+use clap::{Arg, ArgMatches, Command};
 use std::alloc::{AllocError, Global};
 
 /// Why words of the command line ask for nothing.
@@ -14,6 +16,16 @@ pub enum WordsFault {
     Usage,
     /// No memory was found.
     Memory,
+}
+
+impl From<AllocError> for WordsFault {
+    ghost use Rattle.rf_words.specs.declared.words.WordsFault.TheVariants.{Memory};
+
+    ghost from_gives = { λ _ e. e ≡ Memory };
+
+    fn from(_: AllocError) -> WordsFault {
+        WordsFault::Memory
+    }
 }
 
 /// What the words after the program's name ask for. Plain words ask for what they say; other words ask for something
@@ -33,10 +45,7 @@ pub fn read_words(alloc: Global, words: &[String]) -> Result<Asked, WordsFault>
         Err(_) => return Err(WordsFault::Memory),
     };
     match command.try_get_matches_from(words) {
-        Ok(matches) => match asked_of(&matches) {
-            Some(asked) => Ok(asked),
-            None => Err(WordsFault::Usage),
-        },
+        Ok(matches) => asked_of(alloc, &matches),
         Err(e) => match e.kind() {
             ErrorKind::OutOfMemory => Err(WordsFault::Memory),
             _ => Err(WordsFault::Usage),
@@ -45,13 +54,49 @@ pub fn read_words(alloc: Global, words: &[String]) -> Result<Asked, WordsFault>
 }
 
 /// What the matches name.
-fn asked_of(matches: &ArgMatches) -> Option<Asked>
-    ensures { result ≡ spec.read_from (subcommand_rows_of matches.now) }
+fn asked_of(alloc: Global, matches: &ArgMatches) -> Result<Asked, WordsFault>
+    ensures asked { IfOk result (λ asked. spec.read_from (subcommand_rows_of matches.now) ≡ Some asked) }
+    ensures usage { IfErr result (λ e. e ≢ WordsFault.Memory → spec.read_from (subcommand_rows_of matches.now) ≡ None) }
 {
-    let (name, _) = matches.subcommand()?;
+    let Some((name, operands)) = matches.subcommand() else {
+        return Err(WordsFault::Usage);
+    };
     match name {
-        "session" => Some(Asked::Session),
-        _ => None,
+        "session" => Ok(Asked::Session),
+        "check" => check_of(alloc, value_of(operands, "show"), value_of(operands, "log")),
+        _ => Err(WordsFault::Usage),
+    }
+}
+
+/// A check of two files, where both words can name a file.
+fn check_of(alloc: Global, show: Option<&str>, log: Option<&str>) -> Result<Asked, WordsFault>
+    ensures asked { IfOk result (λ asked. spec.check_of (option_map (λ s. s.now) show.entry) (option_map (λ s. s.now) log.entry) ≡ Some asked) }
+    ensures usage { IfErr result (λ e. e ≢ WordsFault.Memory →
+        spec.check_of (option_map (λ s. s.now) show.entry) (option_map (λ s. s.now) log.entry) ≡ None) }
+{
+    match (show, log) {
+        (Some(show), Some(log)) if is_file_word(show) && is_file_word(log) => Ok(Asked::Check {
+            show: Word::of(alloc, show)?,
+            log: Word::of(alloc, log)?,
+        }),
+        _ => Err(WordsFault::Usage),
+    }
+}
+
+/// The value of an operand.
+fn value_of<'a>(matches: &ArgMatches<'a>, id: &str) -> Option<&'a str>
+    ensures { option_map (λ s. s.now) result ≡ first_of id.now (rows_of (found_of matches.now)) }
+{
+    matches.get_str(id)
+}
+
+/// Whether a word can name a file: it isn't empty and doesn't begin with `-`.
+fn is_file_word(word: &str) -> bool
+    ensures { result ≡ spec.is_file_word word.now }
+{
+    match word.as_bytes() {
+        [] => false,
+        [first, ..] => *first != b'-',
     }
 }
 
@@ -60,9 +105,34 @@ fn command<'a>(alloc: Global) -> Result<Command<'a>, AllocError>
     ensures { IfOk result (λ c. app_of c ≡ spec.app) }
 {
     let session = Command::new(alloc, "session");
+    let check = two_operands(alloc, "check", "show", "log")?;
     Command::new(alloc, "rfcoord")
         .no_binary_name(true)
         .disable_help_flag(true)
         .disable_help_subcommand(true)
-        .subcommand(session)
+        .subcommand(session)?
+        .subcommand(check)
+}
+
+/// A subcommand that takes two words.
+fn two_operands<'a>(
+    alloc: Global,
+    name: &'a str,
+    first: &'a str,
+    second: &'a str,
+) -> Result<Command<'a>, AllocError>
+    ensures app { IfOk result (λ c. app_of c ≡ spec.two_operands name.entry.now first.entry.now second.entry.now) }
+    ensures local { IfOk result (λ c. (out-Command c).has_globals ≡ false) }
+{
+    Command::new(alloc, name)
+        .arg(operand(alloc, first))?
+        .arg(operand(alloc, second))
+}
+
+/// An operand that must be there.
+fn operand<'a>(alloc: Global, id: &'a str) -> Arg<'a>
+    ensures rule { rule_of result ≡ spec.operand id.entry.now }
+    ensures local { result.global ≡ false }
+{
+    Arg::new(alloc, id).required(true)
 }

@@ -9,5 +9,7 @@ pub returns : goal.returns
 unfolding app
 returns c =
     let bare_is : app_of c.disable_help_subcommand.result ≡ bare = search rules in
-    IfOk-weaker c.subcommand.result _ _
-    (λ r adds. adds.shape c.new-session.ensures.local ∙ ap₂ with_subcommand bare_is (ap (λ (a : App). a.top) c.new-session.ensures.app)) c.subcommand.ensures
+    let first : app_of c.in_ok-subcommand.field-0 ≡ with_subcommand bare (new_app (codes "session")).top =
+    c.in_ok-subcommand.ensures.shape c.new-session.ensures.local ∙ ap₂ with_subcommand bare_is (ap (λ (a : App). a.top) c.new-session.ensures.app) in
+    IfOk-weaker c.subcommand-2.result _ _
+    (λ r adds. adds.shape c.in_ok-check.ensures.local ∙ ap₂ with_subcommand first (ap (λ (a : App). a.top) c.in_ok-check.ensures.app)) c.subcommand-2.ensures
