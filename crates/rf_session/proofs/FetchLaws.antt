@@ -8,7 +8,7 @@ use Rattle.std.proofs.lemmas.List.Elements.{All-nil, All-cons, All-append}
 use Rattle.std.proofs.lemmas.List.Folds.{list_any-append}
 use Rattle.std.proofs.lemmas.List.Sums.{sum_by-append}
 use Rattle.std.specs.declared.option.Option.{Option}
-use Rattle.rf_session.specs.Fetches.{Fetched, absent, of_file, Got, Outside, MayCome, MayBring, asks_for, Brought, KeptCounts, Obeyed}
+use Rattle.rf_session.specs.Fetches.{Fetched, absent, of_file, Got, Outside, MayCome, MayBring, MayBringWithin, asks_for, file_limit, Brought, BroughtWithin, KeptCounts, Obeyed}
 
 pub count_by-append : {X : Type 0} (p : X → Bool) (xs ys : List X) → count_by p (xs ++ ys) ≡ count_by p xs + count_by p ys
 count_by-append p xs ys = sum_by-append (λ x. cond (p x) 1 0) xs ys
@@ -33,10 +33,13 @@ Brought-then before mid after fs gs first second = record {
   same = λ name. second.same name ∙ first.same name;
 }
 
-pub Brought-none : (o : Outside) → Brought o o []
-Brought-none o = record { told = All-nil (MayBring o.file); bound = λ name. omega arith; same = λ name. refl }
+pub BroughtWithin-none : (limit : ℕ) (o : Outside) → BroughtWithin limit o o []
+BroughtWithin-none limit o = record { told = All-nil (MayBringWithin limit o.file); bound = λ name. omega arith; same = λ name. refl }
 
-either_false : (a b : Bool) → (a || b) ≡ false → (a ≡ false) × (b ≡ false)
+pub Brought-none : (o : Outside) → Brought o o []
+Brought-none o = BroughtWithin-none file_limit o
+
+pub either_false : (a b : Bool) → (a || b) ≡ false → (a ≡ false) × (b ≡ false)
 either_false true b h = absurd cc
 either_false false b h = (refl, h)
 
@@ -54,11 +57,13 @@ Brought-absent before after files counts = record {
   same = files;
 }
 
+pub other_name : (file name : List ℕ) → bytes_eq file name ≡ false → name ≢ file
+other_name file name other same = false≢true (sym other ∙ (bytes_eq-Decides file name).1 (sym same))
+
 -- the count of a file for which the one fetch asked not stayed as it was
-KeptCounts-file : (before after : Outside) (name : List ℕ) (got : Got) → ((other : List ℕ) → other ≢ name → after.faults other ≡ before.faults other) →
+pub KeptCounts-file : (before after : Outside) (name : List ℕ) (got : Got) → ((other : List ℕ) → other ≢ name → after.faults other ≡ before.faults other) →
     KeptCounts before after (of_file name got ∷ [])
-KeptCounts-file before after name got others = λ other none. others other (λ same.
-    false≢true (sym (either_false (bytes_eq name other) false none).0 ∙ (bytes_eq-Decides name other).1 (sym same)))
+KeptCounts-file before after name got others = λ other none. others other (other_name name other (either_false (bytes_eq name other) false none).0)
 
 -- a line that names no file was obeyed
 pub Obeyed-absent : (step : Fetched → Type 0) (o : Outside) → step absent → Obeyed step o o
@@ -77,4 +82,13 @@ Obeyed-file step before after name got took brought others = record {
   took = took;
   brought = brought;
   kept = KeptCounts-file before after name got others;
+}
+
+-- less holds of a line that was obeyed
+pub Obeyed-weaker : (P Q : Fetched → Type 0) (before after : Outside) → ((fetched : Fetched) → P fetched → Q fetched) → Obeyed P before after → Obeyed Q before after
+Obeyed-weaker P Q before after weaker obeyed = record {
+  fetched = obeyed.fetched;
+  took = weaker obeyed.fetched obeyed.took;
+  brought = obeyed.brought;
+  kept = obeyed.kept;
 }

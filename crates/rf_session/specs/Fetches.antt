@@ -34,21 +34,29 @@ outside written file faults = record { written = written; file = file; faults = 
 abbrev pub file_limit : ℕ
 file_limit = 16_777_216
 
--- what may come of a file of which the shelf tells this: always a fault; otherwise its bytes, or that they are too many
+-- what may come of a file that may have so many bytes, of which the shelf tells this: always a fault; otherwise its bytes, or that they
+-- are too many
+abbrev pub MayComeWithin : ℕ → Option (Option (List ℕ)) → Got → Type 0
+MayComeWithin limit None (found bytes) = length bytes ≤ limit
+MayComeWithin limit None too_large = Unit {0}
+MayComeWithin limit None fault = Unit {0}
+MayComeWithin limit (Some None) (found bytes) = ⊥
+MayComeWithin limit (Some None) too_large = ⊥
+MayComeWithin limit (Some None) fault = Unit {0}
+MayComeWithin limit (Some (Some held)) (found bytes) = (bytes ≡ held) × (length held ≤ limit)
+MayComeWithin limit (Some (Some held)) too_large = limit < length held
+MayComeWithin limit (Some (Some held)) fault = Unit {0}
+
+abbrev pub MayBringWithin : ℕ → (List ℕ → Option (Option (List ℕ))) → Fetched → Type 0
+MayBringWithin limit file absent = Unit {0}
+MayBringWithin limit file (of_file name got) = MayComeWithin limit (file name) got
+
+-- the same of a file that a line names
 abbrev pub MayCome : Option (Option (List ℕ)) → Got → Type 0
-MayCome None (found bytes) = length bytes ≤ file_limit
-MayCome None too_large = Unit {0}
-MayCome None fault = Unit {0}
-MayCome (Some None) (found bytes) = ⊥
-MayCome (Some None) too_large = ⊥
-MayCome (Some None) fault = Unit {0}
-MayCome (Some (Some held)) (found bytes) = (bytes ≡ held) × (length held ≤ file_limit)
-MayCome (Some (Some held)) too_large = file_limit < length held
-MayCome (Some (Some held)) fault = Unit {0}
+MayCome = MayComeWithin file_limit
 
 abbrev pub MayBring : (List ℕ → Option (Option (List ℕ))) → Fetched → Type 0
-MayBring file absent = Unit {0}
-MayBring file (of_file name got) = MayCome (file name) got
+MayBring = MayBringWithin file_limit
 
 -- a fetch of this file
 abbrev pub asks_for : List ℕ → Fetched → Bool
@@ -62,12 +70,16 @@ fails_at name (of_file other (found bytes)) = false
 fails_at name (of_file other too_large) = false
 fails_at name (of_file other fault) = bytes_eq other name
 
--- The shelf brought these: each is a fault or what the shelf tells of the file, no file had more faults among them than its
--- count rose by (a count may stand at its type's end), and the shelf goes on telling the same.
-pub record Brought (before after : Outside) (fetches : List Fetched) : Type 0 where
-  pub told : All (MayBring before.file) fetches
+-- The shelf brought these, of at most so many bytes each: each is a fault or what the shelf tells of the file, no file had more
+-- faults among them than its count rose by (a count may stand at its type's end), and the shelf goes on telling the same.
+pub record BroughtWithin (limit : ℕ) (before after : Outside) (fetches : List Fetched) : Type 0 where
+  pub told : All (MayBringWithin limit before.file) fetches
   pub bound : (name : List ℕ) → min (before.faults name + count_by (fails_at name) fetches) (2 ^ 64 - 1) ≤ after.faults name
   pub same : (name : List ℕ) → after.file name ≡ before.file name
+
+-- the shelf brought these files that lines name
+abbrev pub Brought : Outside → Outside → List Fetched → Type 0
+Brought = BroughtWithin file_limit
 
 -- the count of a file for which nothing asked stayed as it was
 abbrev pub KeptCounts : Outside → Outside → List Fetched → Type 0

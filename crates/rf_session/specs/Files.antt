@@ -20,11 +20,15 @@ use Rattle.rf_session.specs.declared.reply.Reply.{Reply}
 use Rattle.rf_session.specs.declared.reply.Reply.TheVariants.{Error, BadFile}
 use Rattle.rf_session.specs.Fetches.{Got, found, too_large, fault, file_limit}
 
--- no more bytes came than a file may have
+-- no more bytes came than these
+abbrev pub IsWithin : ℕ → Got → Type 0
+IsWithin limit (found bytes) = length bytes ≤ limit
+IsWithin limit too_large = Unit {0}
+IsWithin limit fault = Unit {0}
+
+-- no more bytes came than a file that a line names may have
 abbrev pub IsSmall : Got → Type 0
-IsSmall (found bytes) = length bytes ≤ file_limit
-IsSmall too_large = Unit {0}
-IsSmall fault = Unit {0}
+IsSmall = IsWithin file_limit
 
 abbrev pub of_profiles : ProfilesFault → FileFault
 of_profiles profiles.Toml = Toml

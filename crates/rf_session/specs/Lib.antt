@@ -1,9 +1,13 @@
+pub mod Checked
 pub mod Fetches
 pub mod Files
+pub mod Finding
 pub mod Reply
 pub mod Run
 pub mod ScanLines
 pub mod Session
+pub mod ShowFile
+pub mod ShowLines
 pub mod Shows
 pub mod Top
 pub mod Turn

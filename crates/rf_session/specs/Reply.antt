@@ -1,10 +1,10 @@
 -- Replies and their texts.
-use Rattle.std.specs.Prelude.{ℕ, Bool, true, false, List, codes, map}
+use Rattle.std.specs.Prelude.{ℕ, Bool, true, false, List, ◌++◌, codes, map}
 use Rattle.std.specs.List.{concat, list_any}
 use Rattle.rf_show.specs.declared.refusal.Refusal.{Refusal}
 use Rattle.rf_show.specs.declared.refusal.Refusal.TheVariants as refusal
 use Rattle.rf_session.specs.declared.reply.Code.{Code}
-use Rattle.rf_session.specs.declared.reply.Code.TheVariants.{UnknownLine, Unknown, Taken, Number, InUse, NoStep, NoFrequency, Locked, Full, ShelfFault, LongLine}
+use Rattle.rf_session.specs.declared.reply.Code.TheVariants.{UnknownLine, Unknown, Taken, Number, InUse, NoStep, NoFrequency, Locked, Full, BadFile as BadFileCode, ShelfFault, LongLine}
 use Rattle.rf_session.specs.declared.reply.Reply.{Reply}
 use Rattle.rf_session.specs.declared.reply.Reply.TheVariants.{Accepted, Text, Error, BadFile}
 
@@ -18,19 +18,24 @@ code_of refusal.NoFrequency = NoFrequency
 code_of refusal.Locked = Locked
 code_of refusal.Full = Full
 
+-- the word of a code
+abbrev pub code_word : Code → List ℕ
+code_word UnknownLine = codes "E1"
+code_word Unknown = codes "E2"
+code_word Taken = codes "E3"
+code_word Number = codes "E4"
+code_word InUse = codes "E5"
+code_word NoStep = codes "E6"
+code_word NoFrequency = codes "E7"
+code_word Locked = codes "E8"
+code_word Full = codes "E9"
+code_word BadFileCode = codes "E10"
+code_word ShelfFault = codes "E11"
+code_word LongLine = codes "E12"
+
 -- the reply line of a refusal
 abbrev pub refusal_text : Code → List ℕ
-refusal_text UnknownLine = codes "error E1\n"
-refusal_text Unknown = codes "error E2\n"
-refusal_text Taken = codes "error E3\n"
-refusal_text Number = codes "error E4\n"
-refusal_text InUse = codes "error E5\n"
-refusal_text NoStep = codes "error E6\n"
-refusal_text NoFrequency = codes "error E7\n"
-refusal_text Locked = codes "error E8\n"
-refusal_text Full = codes "error E9\n"
-refusal_text ShelfFault = codes "error E11\n"
-refusal_text LongLine = codes "error E12\n"
+refusal_text code = codes "error " ++ code_word code ++ codes "\n"
 
 -- the bytes of a reply
 abbrev pub text_of : Reply → List ℕ

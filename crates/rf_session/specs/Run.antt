@@ -43,10 +43,6 @@ abbrev pub Cut : {M : Type 0} → (M → Stop → List ℕ → Fetched → List 
 Cut cuts state stop (short bytes) fetched part = cuts state stop bytes fetched part
 Cut cuts state stop long fetched part = (n : ℕ) × (part ≡ take n (refusal_text LongLine))
 
--- a part of a reply that the machine may give
-abbrev pub PartOf : {M : Type 0} → (M → List ℕ → Fetched → Reply → M → Type 0) → M → List ℕ → Fetched → List ℕ → Type 0
-PartOf steps state line fetched part = (reply : Reply) × (new : _) × steps state line fetched reply new × (n : ℕ) × (part ≡ take n (text_of reply))
-
 -- the machine may give these replies to these lines and their fetches, one step after another
 abbrev pub Run : {M : Type 0} → (M → Line → Fetched → Reply → M → Type 0) → M → List Line → List Fetched → List Reply → M → Type 0
 Run step old [] [] [] new = new ≡ old

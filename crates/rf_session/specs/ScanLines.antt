@@ -1,7 +1,7 @@
 -- The line of a scan.
 use Rattle.rf_text.specs.declared.command.Command.{Command}
 use Rattle.rf_text.specs.declared.command.Command.TheVariants.{Scan}
-use Rattle.rf_session.specs.declared.show_machine.ScanLine.{ScanLine}
+use Rattle.rf_session.specs.declared.scan_line.ScanLine.{ScanLine}
 
 -- the command that a scan's line writes
 abbrev pub scan_command : ScanLine → Command

@@ -1,5 +1,5 @@
 -- The machine of a session: what it replies to a line, and its history after it.
-use Rattle.std.specs.Prelude.{◌≡◌, ◌&&◌, if◌then◌else◌, nat_le, ℕ, List, Option, Some, None, Result, Ok, Err, ok_or, position}
+use Rattle.std.specs.Prelude.{◌≡◌, ◌&&◌, ◌⊎◌, if◌then◌else◌, nat_le, ℕ, Bool, true, false, List, take, Option, Some, None, Result, Ok, Err, ok_or, position}
 use Rattle.rf_base.specs.Khz.{is_khz}
 use Rattle.rf_base.specs.declared.decimal.Decimal.{Decimal}
 use Rattle.rf_exclusions.specs.declared.scan_set.Sep.{Sep}
@@ -13,7 +13,7 @@ use Rattle.rf_show.specs.declared.refusal.Refusal.{Refusal}
 use Rattle.rf_editor.specs.History.{History, edited_history, undone, redone}
 use Rattle.rf_rules.specs.Analyses.{analysed}
 use Rattle.rf_rules.specs.Products.{listed}
-use Rattle.rf_solving.specs.Solving.{IsSearch, plan_ats}
+use Rattle.rf_solving.specs.Solving.{IsBegun, IsSearch, plan_ats}
 use Rattle.rf_text.specs.declared.command.Command.{Command}
 use Rattle.rf_text.specs.declared.command.Command.TheVariants as command
 use Rattle.rf_text.specs.declared.command.UnknownLine.{UnknownLine}
@@ -24,14 +24,14 @@ use Rattle.rf_text.specs.Reports.{products_text_of, report_text_of}
 use Rattle.rf_text.specs.Shows.{show_text_of}
 use Rattle.rf_session.specs.declared.file_fault.FileFault.{FileFault}
 use Rattle.rf_session.specs.declared.machine.Stop.{Stop}
+use Rattle.rf_session.specs.declared.machine.Stop.TheVariants.{Write, Memory}
 use Rattle.rf_session.specs.declared.reply.Code.{Code}
 use Rattle.rf_session.specs.declared.reply.Code.TheVariants.{UnknownLine as IsUnknownLine, Unknown, Number, NoStep}
 use Rattle.rf_session.specs.declared.reply.Reply.{Reply}
 use Rattle.rf_session.specs.declared.reply.Reply.TheVariants.{Accepted, Text, Error}
 use Rattle.rf_session.specs.Fetches.{Fetched, absent, fetch_of, Got}
 use Rattle.rf_session.specs.Files.{fault_reply, hot_in, profiles_in}
-use Rattle.rf_session.specs.Reply.{code_of}
-use Rattle.rf_session.specs.Run.{PartOf}
+use Rattle.rf_session.specs.Reply.{code_of, text_of}
 
 -- What a command comes to: its reply, and the history after it.
 pub record Outcome : Type 0 where
@@ -121,20 +121,21 @@ outcome history (command.Solve budget) got = told history (Err Number)
 outcome history (command.Place budget) got = told history (Err Number)
 outcome history command.Quit got = moved history (Ok history)
 
--- the history after a plan is applied as one edit
-abbrev pub applied : History → Option (List (Option ℕ)) → History
-applied history (Some ats) = (edited history (edit.Place ats)).history
-applied history None = history
+-- whether a search applies its plan
+abbrev pub places : Command → Bool
+places (command.Place budget) = true
+places _ = false
 
--- the history after a search
-abbrev pub searched : History → Command → Ending → History
-searched history (command.Place budget) ending = applied history (plan_ats history.show ending)
-searched history _ ending = history
+-- the history after a search: a plan that is placed is one edit, which is accepted
+abbrev pub LeavesAfter : History → Bool → Option (List (Option ℕ)) → History → Type 0
+LeavesAfter old true (Some ats) new = edited_history old (edit.Place ats) ≡ Ok new
+LeavesAfter old true None new = new ≡ old
+LeavesAfter old false ats new = new ≡ old
 
 -- a search came to this reply, and to this history after it
 abbrev pub Searches : History → Command → ℕ → Reply → History → Type 0
 Searches old command n reply new =
-    (ending : Ending) × (text : List ℕ) × IsSearch old.show n ending text × (reply ≡ Text text) × (new ≡ searched old command ending)
+    (ending : Ending) × (text : List ℕ) × IsSearch old.show n ending text × (reply ≡ Text text) × LeavesAfter old (places command) (plan_ats old.show ending) new
 
 -- what a command comes to, where it searches with this budget or doesn't search
 abbrev pub Does : History → Command → Option ℕ → Fetched → Reply → History → Type 0
@@ -152,6 +153,24 @@ Obeys old (Err unknown) fetched reply new = (fetched ≡ absent) × (reply ≡ E
 abbrev pub Steps : History → List ℕ → Fetched → Reply → History → Type 0
 Steps old line fetched reply new = Obeys old (command_of line) fetched reply new
 
--- what may be written of a reply that is cut short: a part of the reply
+-- what may be written of a search before it comes to an end: a part of the text of valid lines with honest branchings
+abbrev pub LogPart : History → Option ℕ → Fetched → List ℕ → Type 0
+LogPart old None fetched part = ⊥
+LogPart old (Some n) fetched part = (fetched ≡ absent) × (log : List ℕ) × IsBegun old.show n log × (k : ℕ) × (part ≡ take k log)
+
+abbrev pub LogPartOf : History → Result Command UnknownLine → Fetched → List ℕ → Type 0
+LogPartOf old (Ok command) fetched part = LogPart old (budget_of command) fetched part
+LogPartOf old (Err unknown) fetched part = ⊥
+
+-- a part of a reply that the machine may give
+abbrev pub ReplyPart : History → Result Command UnknownLine → Fetched → List ℕ → Type 0
+ReplyPart old said fetched part = (reply : Reply) × (new : History) × Obeys old said fetched reply new × (k : ℕ) × (part ≡ take k (text_of reply))
+
+-- What may be written of a reply that is cut short: for want of memory a part of the log of a search, and where the output failed
+-- such a part or a part of a whole reply.
+abbrev pub PartsOf : History → Stop → Result Command UnknownLine → Fetched → List ℕ → Type 0
+PartsOf old Write said fetched part = ReplyPart old said fetched part ⊎ LogPartOf old said fetched part
+PartsOf old Memory said fetched part = LogPartOf old said fetched part
+
 abbrev pub Parts : History → Stop → List ℕ → Fetched → List ℕ → Type 0
-Parts old stop line fetched part = PartOf Steps old line fetched part
+Parts old stop line fetched part = PartsOf old stop (command_of line) fetched part

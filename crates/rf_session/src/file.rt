@@ -4,7 +4,7 @@ ghost use Rattle.std.specs.Prelude.{◌≡◌, ◌≢◌, ◌≤◌, ◌∷◌, 
 ghost use Rattle.std.specs.declared.option.Option.{Option};
 ghost use Rattle.rf_show.specs.After.{is_edit};
 ghost use Rattle.rf_show.specs.declared.edit.Edit.{Edit};
-ghost use Rattle.rf_session.specs.Fetches.{outside, of_file, found, got_of, Brought};
+ghost use Rattle.rf_session.specs.Fetches.{outside, of_file, found, got_of, Brought, BroughtWithin};
 ghost use Rattle.rf_session.specs.Files as spec;
 
 use crate::file_fault::FileFault;
@@ -49,13 +49,29 @@ pub(crate) fn fetch_file<F: Shelf>(
     shelf: &mut F,
     name: &str,
 ) -> Result<File, NoMemory>
-    ensures kept { IfOk result (λ file. (other : List ℕ) → other ≢ name.now → F.faults shelf.new other ≡ F.faults shelf.old other) }
+    ensures kept { (other : List ℕ) → other ≢ name.now → F.faults shelf.new other ≡ F.faults shelf.old other }
     ensures brought { IfOk result (λ file. (written : Option (List ℕ)) → Brought (outside written (F.file shelf.old) (F.faults shelf.old))
         (outside written (F.file shelf.new) (F.faults shelf.new)) (of_file name.now (got_of file) ∷ [])) }
     ensures small { IfOk result (λ file. spec.IsSmall (got_of file)) }
     ensures later { (other : List ℕ) → F.faults shelf.old other ≤ F.faults shelf.new other }
 {
-    match shelf.fetch(alloc, name, FILE_LIMIT) {
+    fetch_within(alloc, shelf, name, FILE_LIMIT)
+}
+
+/// Fetches a file of at most `limit` bytes.
+pub(crate) fn fetch_within<F: Shelf>(
+    alloc: Global,
+    shelf: &mut F,
+    name: &str,
+    limit: usize,
+) -> Result<File, NoMemory>
+    ensures kept { (other : List ℕ) → other ≢ name.now → F.faults shelf.new other ≡ F.faults shelf.old other }
+    ensures brought { IfOk result (λ file. (written : Option (List ℕ)) → BroughtWithin limit (outside written (F.file shelf.old) (F.faults shelf.old))
+        (outside written (F.file shelf.new) (F.faults shelf.new)) (of_file name.now (got_of file) ∷ [])) }
+    ensures small { IfOk result (λ file. spec.IsWithin limit (got_of file)) }
+    ensures later { (other : List ℕ) → F.faults shelf.old other ≤ F.faults shelf.new other }
+{
+    match shelf.fetch(alloc, name, limit) {
         Ok(bytes) => Ok(File::Found(bytes)),
         Err(Fetch::Large) => Ok(File::TooLarge),
         Err(Fetch::Failed) => Ok(File::Fault),

@@ -1,16 +1,24 @@
 //! Sessions: lines are read, answered by a machine, and the replies are written.
 #![tactic(auto)]
 
+mod check;
 mod file;
 mod file_fault;
+mod finding;
 mod machine;
 mod reply;
+mod scan_line;
 mod session;
+mod show_file;
 mod show_machine;
 mod top;
 mod words;
 
 pub use top::run;
 
+#[cfg(test)]
+mod check_tests;
+#[cfg(test)]
+mod saved_tests;
 #[cfg(test)]
 mod tests;

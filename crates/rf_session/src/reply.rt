@@ -31,6 +31,8 @@ pub enum Code {
     Locked,
     /// E9: there are as many as there may be.
     Full,
+    /// E10: the line's file is too large, or is no file of its kind.
+    BadFile,
     /// E11: the shelf failed at the line's file.
     ShelfFault,
     /// E12: the line is longer than a line may be.
@@ -52,8 +54,29 @@ impl Code {
             Code::NoFrequency => b"error E7\n",
             Code::Locked => b"error E8\n",
             Code::Full => b"error E9\n",
+            Code::BadFile => b"error E10\n",
             Code::ShelfFault => b"error E11\n",
             Code::LongLine => b"error E12\n",
+        }
+    }
+
+    /// The word of the code.
+    pub fn word(self) -> &'static str
+        ensures { result.now ≡ spec.code_word self }
+    {
+        match self {
+            Code::UnknownLine => "E1",
+            Code::Unknown => "E2",
+            Code::Taken => "E3",
+            Code::Number => "E4",
+            Code::InUse => "E5",
+            Code::NoStep => "E6",
+            Code::NoFrequency => "E7",
+            Code::Locked => "E8",
+            Code::Full => "E9",
+            Code::BadFile => "E10",
+            Code::ShelfFault => "E11",
+            Code::LongLine => "E12",
         }
     }
 }

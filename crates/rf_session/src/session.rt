@@ -127,7 +127,7 @@ fn handle<M: Machine, F: Shelf, O: Sink>(
 }
 
 /// Whether a line gets no reply: it is empty or a comment.
-fn is_passed(line: &[u8]) -> bool
+pub(crate) fn is_passed(line: &[u8]) -> bool
     ensures { result ≡ is_passed (short line.now) }
 {
     line.is_empty() || line[0] == b'#'

@@ -1,12 +1,16 @@
 //! The machine of a session: a show that is edited, and what lines ask of it.
 
-ghost use Rattle.std.specs.Prelude.{◌≡◌, ◌≤◌, ℕ, List, Ok, IfOk, OnOk, IsTrue, position};
+ghost use Rattle.std.specs.Prelude.{◌≡◌, ◌≤◌, ℕ, List, Ok, Err, None, Some, IfOk, IfErr, OnOk, IsTrue, position};
+ghost use Rattle.std.specs.declared.option.Option.{Option};
+ghost use Rattle.rf_base.specs.Cause.{Rose};
 ghost use Rattle.rf_show.specs.Show.{is_carrier};
 ghost use Rattle.rf_editor.specs.History.{first_history};
 ghost use Rattle.rf_show.specs.After.{is_edit};
 ghost use Rattle.rf_text.specs.Commands.{IsAskable};
-ghost use Rattle.rf_session.specs.Fetches.{absent, fault, got_of, shelf_alone, Obeyed};
+ghost use Rattle.rf_solving.specs.Placing.{IsAdmitted};
+ghost use Rattle.rf_session.specs.Fetches.{fault, got_of, outside, shelf_alone, Obeyed};
 ghost use Rattle.rf_session.specs.Files.{IsSmall};
+ghost use Rattle.rf_session.specs.Run.{IsCut, Replied};
 ghost use Rattle.rf_session.specs.ScanLines.{scan_command};
 ghost use Rattle.rf_session.specs.Shows as spec;
 
@@ -14,27 +18,17 @@ use crate::file::{File, fetch_file, hot_in, profiles_in};
 use crate::file_fault::refuse_file;
 use crate::machine::{Machine, Stop};
 use crate::reply::{Code, Reply, say};
-use rf_base::{Decimal, FileName, Items, Khz, Name, NoMemory, Shelf, Sink};
+use crate::scan_line::ScanLine;
+use rf_base::{Failed, Items, Khz, Name, NoMemory, Shelf, Sink, put};
 use rf_editor::{EditFault, Editor, StepFault};
-use rf_exclusions::Sep;
 use rf_search::MAX_BUDGET;
 use rf_show::{Carrier, Edit};
-use rf_solving::{Outcome, solve_show};
+use rf_solving::{Found, SolveFault, plan_is_admitted, write_search};
 use rf_text::{
     Command, UnknownLine, csv_text, free_text, products_text, read_command, report_text, show_text,
 };
 use std::alloc::Global;
 use std::marker::Model;
-
-/// A scan as its line gives it.
-#[derive(Clone, Copy)]
-struct ScanLine {
-    file: FileName,
-    zone: Name,
-    threshold: Decimal,
-    width: u32,
-    sep: Sep,
-}
 
 /// A show with its history, and what answers lines from it.
 #[derive(Drop)]
@@ -62,21 +56,36 @@ impl ShowMachine {
         })
     }
 
-    /// Does what a line asks for, and gives the reply. A file that the line names is fetched first.
-    fn obey<F: Shelf>(&mut self, line: &[u8], shelf: &mut F) -> Result<Reply, NoMemory>
-        ensures obeyed { IfOk result (λ reply. Obeyed (λ fetched. spec.Steps self.old line.now fetched reply self.new)
-            (shelf_alone (F.file shelf.old) (F.faults shelf.old)) (shelf_alone (F.file shelf.new) (F.faults shelf.new))) }
-        ensures later { (name : List ℕ) → F.faults shelf.old name ≤ F.faults shelf.new name }
+    /// Does what a command asks for, and writes the reply. A file that the command names is fetched first.
+    fn perform<F: Shelf, O: Sink>(
+        &mut self,
+        command: Command,
+        shelf: &mut F,
+        output: &mut O,
+    ) -> Result<bool, Stop>
+        requires { IsAskable command }
+        ensures replied { IfOk result (Replied (spec.Obeys self.old (Ok command)) self.new
+            (outside (O.contents output.old) (F.file shelf.old) (F.faults shelf.old))
+            (outside (O.contents output.new) (F.file shelf.new) (F.faults shelf.new))) }
+        ensures cut { IfErr result (λ stop. IsCut (spec.PartsOf self.old stop (Ok command))
+            (outside (O.contents output.old) (F.file shelf.old) (F.faults shelf.old))
+            (outside (O.contents output.new) (F.file shelf.new) (F.faults shelf.new))) }
+        ensures later { O.faults output.old ≤ O.faults output.new }
+        ensures fault { result ≡ Err Stop.Write → Rose (O.faults output.old) (O.faults output.new) }
     {
-        match read_command(line) {
-            Ok(command) => self.perform(command, shelf),
-            Err(UnknownLine) => Ok(Reply::Error(Code::UnknownLine)),
+        if let Some(budget) = budget_of(&command) {
+            return self.search(command, budget, output);
         }
+        let Ok(reply) = self.obey(command, shelf) else {
+            return Err(Stop::Memory);
+        };
+        say(output, &reply)
     }
 
-    /// Does what a command asks for.
-    fn perform<F: Shelf>(&mut self, command: Command, shelf: &mut F) -> Result<Reply, NoMemory>
-        requires { IsAskable command }
+    /// Does what a command that doesn't search asks for, and gives the reply.
+    fn obey<F: Shelf>(&mut self, command: Command, shelf: &mut F) -> Result<Reply, NoMemory>
+        requires askable { IsAskable command }
+        requires free { spec.budget_of command ≡ None }
         ensures obeyed { IfOk result (λ reply. Obeyed (λ fetched. spec.Obeys self.old (Ok command) fetched reply self.new)
             (shelf_alone (F.file shelf.old) (F.faults shelf.old)) (shelf_alone (F.file shelf.new) (F.faults shelf.new))) }
         ensures later { (name : List ℕ) → F.faults shelf.old name ≤ F.faults shelf.new name }
@@ -111,8 +120,7 @@ impl ShowMachine {
             Command::Show => self.show(),
             Command::Free { name } => self.free(name),
             Command::Products { lo, hi } => self.products(lo, hi),
-            Command::Solve { budget } => self.solve(budget),
-            Command::Place { budget } => self.place(budget),
+            Command::Solve { .. } | Command::Place { .. } => Ok(Reply::Error(Code::Number)),
             Command::Quit => Ok(Reply::Accepted),
         }
     }
@@ -228,37 +236,54 @@ impl ShowMachine {
         }
     }
 
-    /// Searches for a plan with at most `budget` branchings.
-    fn solve(&self, budget: u32) -> Result<Reply, NoMemory>
-        ensures { IfOk result (λ reply. spec.Obeys self.now (Ok (Command.Solve budget)) absent reply self.now) }
+    /// Searches for a plan with at most `budget` branchings, and writes the log and the verdict. `place` applies a plan as one
+    /// edit before the verdict is written.
+    fn search<O: Sink>(
+        &mut self,
+        command: Command,
+        budget: u32,
+        output: &mut O,
+    ) -> Result<bool, Stop>
+        requires { spec.budget_of command ≡ Some budget }
+        ensures replied { (file : List ℕ → Option (Option (List ℕ))) (faults : List ℕ → ℕ) → IfOk result (Replied (spec.Obeys self.old (Ok command)) self.new
+            (outside (O.contents output.old) file faults) (outside (O.contents output.new) file faults)) }
+        ensures cut { (file : List ℕ → Option (Option (List ℕ))) (faults : List ℕ → ℕ) → IfErr result (λ stop. IsCut (spec.PartsOf self.old stop (Ok command))
+            (outside (O.contents output.old) file faults) (outside (O.contents output.new) file faults)) }
+        ensures later { O.faults output.old ≤ O.faults output.new }
+        ensures fault { result ≡ Err Stop.Write → Rose (O.faults output.old) (O.faults output.new) }
     {
-        if budget > MAX_BUDGET {
-            return Ok(Reply::Error(Code::Number));
+        plan_is_admitted();
+        let found = match write_search(self.alloc, self.editor.show(), budget, output) {
+            Ok(found) => found,
+            Err(SolveFault::LogFault) => return Err(Stop::Write),
+            Err(SolveFault::Memory) => return Err(Stop::Memory),
+        };
+        let Found { verdict, ats } = found;
+        if self.apply_plan(places(&command), ats).is_err() {
+            return Err(Stop::Memory);
         }
-        let outcome = solve_show(self.alloc, self.editor.show(), budget)?;
-        Ok(Reply::Text(outcome.text))
+        match put(output, verdict.as_slice()) {
+            Ok(()) => Ok(false),
+            Err(Failed) => Err(Stop::Write),
+        }
     }
 
-    /// Searches for a plan with at most `budget` branchings, and applies it as one edit.
-    fn place(&mut self, budget: u32) -> Result<Reply, NoMemory>
-        ensures { IfOk result (λ reply. spec.Obeys self.old (Ok (Command.Place budget)) absent reply self.new) }
+    /// Gives the carriers the frequencies of a plan, where there is one and it is placed.
+    fn apply_plan(&mut self, places: bool, ats: Option<Items<Option<Khz>>>) -> Result<(), NoMemory>
+        requires { (at : List (Option ℕ)) → ats ≡ Some at → IsAdmitted self.old.show (Edit.Place at) }
+        ensures { OnOk result (spec.LeavesAfter self.old places ats self.new) }
     {
-        if budget > MAX_BUDGET {
-            return Ok(Reply::Error(Code::Number));
+        if !places {
+            return Ok(());
         }
-        let Outcome { text, ats } = solve_show(self.alloc, self.editor.show(), budget)?;
-        self.apply_plan(ats)?;
-        Ok(Reply::Text(text))
-    }
-
-    /// Gives the carriers the frequencies of a plan, where there is one.
-    fn apply_plan(&mut self, ats: Option<Items<Option<Khz>>>) -> Result<(), NoMemory>
-        ensures { OnOk result (self.new ≡ spec.applied self.old ats) }
-    {
-        if let Some(ats) = ats {
-            self.change(Edit::Place { at: ats })?;
+        let Some(at) = ats else {
+            return Ok(());
+        };
+        match self.editor.apply(Edit::Place { at }) {
+            Ok(()) => Ok(()),
+            Err(EditFault::Refused(_)) => unreachable!(),
+            Err(EditFault::Memory) => Err(NoMemory),
         }
-        Ok(())
     }
 
     /// The allowed channels of a carrier.
@@ -275,6 +300,25 @@ impl ShowMachine {
             None => Ok(Reply::Error(Code::Unknown)),
         }
     }
+}
+
+/// The budget of a command that searches. There is none where it is out of its range.
+fn budget_of(command: &Command) -> Option<u32>
+    ensures { result ≡ spec.budget_of command.now }
+{
+    match command {
+        Command::Solve { budget } | Command::Place { budget } if *budget <= MAX_BUDGET => {
+            Some(*budget)
+        }
+        _ => None,
+    }
+}
+
+/// Whether a search applies its plan.
+fn places(command: &Command) -> bool
+    ensures { result ≡ spec.places command.now }
+{
+    matches!(command, Command::Place { .. })
 }
 
 /// The place of the carrier of a name.
@@ -297,9 +341,9 @@ impl Machine for ShowMachine {
         shelf: &mut F,
         output: &mut O,
     ) -> Result<bool, Stop> {
-        let Ok(reply) = self.obey(line, shelf) else {
-            return Err(Stop::Memory);
-        };
-        say(output, &reply)
+        match read_command(line) {
+            Ok(command) => self.perform(command, shelf, output),
+            Err(UnknownLine) => say(output, &Reply::Error(Code::UnknownLine)),
+        }
     }
 }

@@ -1,14 +1,16 @@
 //! All that the program does.
 
-ghost use Rattle.std.specs.Prelude.{◌≡◌, ◌≤◌, Bool, Some, None, length, map, string_bytes, IsSomeAnd, if◌then◌else◌};
+ghost use Rattle.std.specs.Prelude.{◌≡◌, ◌≤◌, ℕ, List, Bool, Some, None, length, map, string_bytes, IsSomeAnd, if◌then◌else◌};
 ghost use Rattle.rf_base.specs.Cause.{Rose};
 ghost use Rattle.rf_base.specs.Told.{WhereTold};
 ghost use Rattle.rf_session.specs.declared.machine.Stop.{Stop};
+ghost use Rattle.rf_session.specs.Checked.{AsksFor, CheckFails, Checks};
 ghost use Rattle.rf_session.specs.Fetches.{outside};
 ghost use Rattle.rf_session.specs.Top.{script_limit, Headline, RepliesToTaken, RepliesToAll, RepliesToSome, IsReadThrough, EndsWell, Serves};
 ghost use Rattle.rf_session.specs.Words.{asks, Usage};
 ghost use Rattle.rf_words.specs.Words.{HasPlain, IsPlain};
 
+use crate::check::check;
 use crate::session::serve;
 use crate::show_machine::ShowMachine;
 use crate::words::refuse_words;
@@ -21,17 +23,25 @@ use std::alloc::Global;
 /// The one word `session` runs a session: script lines are read from the input, each is answered by a show that begins
 /// with the zone `main` alone, and its reply is written to the output before the next line is read. A file that a line
 /// names is fetched from the shelf in that line; it is answered E11 only where the count of its faults rose. The session
-/// ends at the end of the input or after the line `quit`. Other words do the same where `clap` takes them and reads that
-/// word from them. All other words are no command: `error usage` is written, and nothing is read.
+/// ends at the end of the input or after the line `quit`.
 ///
-/// - `Done`, `Refused`: the session came to its end, and no line, or one, was refused.
+/// The words `check SHOW LOG` judge a log: the file SHOW is fetched, and each of its lines must be an edit of the show, a
+/// comment or empty; then the file LOG is fetched and judged over that show. One line is written. No byte of the input is
+/// taken.
+///
+/// Other words do the same where `clap` takes them and reads these words from them. All other words are no command:
+/// `error usage` is written, and nothing is read.
+///
+/// - `Done`, `Refused`: the session came to its end, and no line, or one, was refused. The check wrote `refuted`, or
+///   another line.
 /// - `Words`: the words are no command.
-/// - `Read`: the input failed. The replies to all lines whose line feed was read are written.
-/// - `Write`: the output failed. A prefix of the replies is written.
-/// - `Memory`: no memory was found. Whole replies are written, and at most a part of the next one; where
-///   the words could not be read for want of memory, nothing is read or written.
-/// - `Long`: the input has more than 67,108,864 bytes. The replies to all lines that end within these are written.
-/// - `Shelf`: never.
+/// - `Read`: the input of a session failed. The replies to all lines whose line feed was read are written.
+/// - `Write`: the output failed. A prefix of the replies, or of the check's line, is written.
+/// - `Shelf`: a file for which a check asked failed, and nothing is written.
+/// - `Memory`: no memory was found. In a session whole replies are written, and at most a part of the next one; in a check
+///   nothing is written. Where the words could not be read for want of memory, nothing is read or written.
+/// - `Long`: the input of a session has more than 67,108,864 bytes. The replies to all lines that end within these are
+///   written.
 pub fn run<I: Source, F: Shelf, O: Sink>(
     alloc: Global,
     words: &[String],
@@ -63,7 +73,19 @@ pub fn run<I: Source, F: Shelf, O: Sink>(
         (outside (O.contents output.new) (F.file shelf.new) (F.faults shelf.new)) bytes) }
     ensures read_cause { result ≡ Status.Read → Rose (I.faults input.old) (I.faults input.new) }
     ensures write_cause { result ≡ Status.Write → Rose (O.faults output.old) (O.faults output.new) }
-    ensures shelf_cause { result ≡ Status.Shelf → ⊥ }
+    ensures shelf_cause { result ≡ Status.Shelf → CheckFails (asks words.now)
+        (outside (O.contents output.old) (F.file shelf.old) (F.faults shelf.old))
+        (outside (O.contents output.new) (F.file shelf.new) (F.faults shelf.new)) }
+    ensures checks { (show : List ℕ) (log : List ℕ) → asks words.now ≡ Some (Asked.Check show log) → Checks result show log
+        (outside (O.contents output.old) (F.file shelf.old) (F.faults shelf.old))
+        (outside (O.contents output.new) (F.file shelf.new) (F.faults shelf.new)) }
+    ensures check_input { (show : List ℕ) (log : List ℕ) → asks words.now ≡ Some (Asked.Check show log) → input.new ≡ input.old }
+    ensures check_complete { (show : List ℕ) (log : List ℕ) → asks words.now ≡ Some (Asked.Check show log) →
+        ¬ Rose (O.faults output.old) (O.faults output.new) →
+        ((name : List ℕ) → AsksFor show log
+        (outside (O.contents output.old) (F.file shelf.old) (F.faults shelf.old))
+        (outside (O.contents output.new) (F.file shelf.new) (F.faults shelf.new)) name →
+        ¬ Rose (F.faults shelf.old name) (F.faults shelf.new name)) → EndsWell result }
     ensures words_cause { result ≡ Status.Words → asks words.now ≡ None }
     ensures plain_words { (asked : Asked) → IsPlain (map string_bytes words.now) asked → asks words.now ≡ Some asked }
     ensures other_words { (asked : Asked) → asks words.now ≡ Some asked → HasPlain asked }
@@ -78,6 +100,7 @@ pub fn run<I: Source, F: Shelf, O: Sink>(
 {
     match read_words(alloc, words) {
         Ok(Asked::Session) => session(alloc, input, shelf, output),
+        Ok(Asked::Check { show, log }) => check(alloc, show.as_str(), log.as_str(), shelf, output),
         Err(WordsFault::Usage) => refuse_words(output),
         Err(WordsFault::Memory) => Status::Memory,
     }

@@ -1,0 +1,134 @@
+-- What a search wrote: its reply, or a part of it.
+use Rattle.std.proofs.Common.{◌≡◌, ◌+◌, ◌++◌, ℕ, suc, Bool, true, false, List, [], ◌∷◌, Some, None, Ok, Err, refl, ap, sym, subst, ◌∙◌, inl, inr, arith, length, take}
+use Rattle.std.proofs.lemmas.List.{take_all}
+use Rattle.std.specs.Prelude.{Result}
+use Rattle.std.specs.Result.{OnOk, is_err}
+use Rattle.std.specs.Io.KnownBytes.{Appends}
+use Rattle.std.specs.declared.option.Option.{Option}
+use Rattle.rf_base.specs.Piece.{AppendsPrefix}
+use Rattle.rf_base.proofs.Bytes.{Appends-then}
+use Rattle.rf_editor.specs.History.{History, accepted, edited_history}
+use Rattle.rf_log.specs.Solved.{Ending, IsSolved, planned, refuted, spent}
+use Rattle.rf_log.specs.declared.line.LogLine.{LogLine}
+use Rattle.rf_show.specs.After.{after_unless, edited, refusal}
+use Rattle.rf_show.specs.Case.{case_of}
+use Rattle.rf_show.specs.Show.{ShowData}
+use Rattle.rf_show.specs.declared.edit.Edit.{Edit}
+use Rattle.rf_show.specs.declared.edit.Edit.TheVariants.{Place}
+use Rattle.rf_show.specs.declared.refusal.Refusal.{Refusal}
+use Rattle.rf_solving.specs.Placing.{IsAdmitted, PlanIsAdmitted}
+use Rattle.rf_solving.specs.Solving.{IsBegun, IsEnded, plan_ats}
+use Rattle.rf_text.specs.declared.command.Command.{Command}
+use Rattle.rf_session.specs.declared.machine.Stop.{Stop}
+use Rattle.rf_session.specs.declared.machine.Stop.TheVariants.{Write, Memory}
+use Rattle.rf_session.specs.declared.reply.Reply.{Reply}
+use Rattle.rf_session.specs.declared.reply.Reply.TheVariants.{Text}
+use Rattle.rf_session.specs.Fetches.{absent, outside}
+use Rattle.rf_session.specs.Run.{IsCut, Replied}
+use Rattle.rf_session.specs.Shows.{Does, LeavesAfter, LogPart, Obeys, PartsOf, budget_of, places}
+use Rattle.rf_session.proofs.FetchLaws.{Brought-absent}
+
+-- the step of a search that has ended
+ended_step : (old new : History) (command : Command) (n : ℕ) (ending : Ending) (log verdict : List ℕ) → budget_of command ≡ Some n →
+    IsEnded old.show n ending log verdict → LeavesAfter old (places command) (plan_ats old.show ending) new →
+    Obeys old (Ok command) absent (Text (log ++ verdict)) new
+ended_step old new command n ending log verdict is ended leaves =
+    subst (λ (budget : Option ℕ). Does old command budget absent (Text (log ++ verdict)) new) (sym is)
+    (refl, (ending, log ++ verdict, ended.whole, refl, leaves))
+
+pub searched_reply : (old new : History) (command : Command) (n : ℕ) (ending : Ending) (log verdict : List ℕ) (a b c : Option (List ℕ))
+    (file : List ℕ → Option (Option (List ℕ))) (faults : List ℕ → ℕ) → budget_of command ≡ Some n →
+    IsEnded old.show n ending log verdict → LeavesAfter old (places command) (plan_ats old.show ending) new →
+    Appends a b log → Appends b c verdict → Replied (Obeys old (Ok command)) new (outside a file faults) (outside c file faults) false
+searched_reply old new command n ending log verdict a b c file faults is ended leaves first second = record {
+  fetched = absent;
+  reply = Text (log ++ verdict);
+  took = ended_step old new command n ending log verdict is ended leaves;
+  brought = Brought-absent (outside a file faults) (outside c file faults) (λ name. refl) (λ name. refl);
+  kept = λ name none. refl;
+  wrote = Appends-then a b c log verdict _ first second refl;
+  refuses = refl;
+}
+
+may_stop : (old : History) (command : Command) (stop : Stop) (part : List ℕ) → LogPart old (budget_of command) absent part →
+    PartsOf old stop (Ok command) absent part
+may_stop old command Write part some = inr some
+may_stop old command Memory part some = some
+
+-- a part of the log was written
+pub begun_cut : (old : History) (command : Command) (stop : Stop) (n k : ℕ) (log : List ℕ) (a b : Option (List ℕ))
+    (file : List ℕ → Option (Option (List ℕ))) (faults : List ℕ → ℕ) → budget_of command ≡ Some n → IsBegun old.show n log →
+    Appends a b (take k log) → IsCut (PartsOf old stop (Ok command)) (outside a file faults) (outside b file faults)
+begun_cut old command stop n k log a b file faults is begun wrote = record {
+  fetched = absent;
+  part = take k log;
+  may = inr (may_stop old command stop (take k log)
+      (subst (λ (budget : Option ℕ). LogPart old budget absent (take k log)) (sym is) (refl, log, begun, k, refl)));
+  told = tt;
+  bound = λ name. omega arith;
+  wrote = wrote;
+}
+
+-- all of the log was
+pub whole_cut : (old : History) (command : Command) (stop : Stop) (n : ℕ) (log : List ℕ) (a b : Option (List ℕ))
+    (file : List ℕ → Option (Option (List ℕ))) (faults : List ℕ → ℕ) → budget_of command ≡ Some n → IsBegun old.show n log →
+    Appends a b log → IsCut (PartsOf old stop (Ok command)) (outside a file faults) (outside b file faults)
+whole_cut old command stop n log a b file faults is begun wrote =
+    begun_cut old command stop n (length log) log a b file faults is begun
+    (subst (λ (part : List ℕ). Appends a b part) (sym (all_of log)) wrote)
+  where
+    all_of : (xs : List ℕ) → take (length xs) xs ≡ xs
+    all_of [] = refl
+    all_of (x ∷ xs) = ap (λ ys. x ∷ ys) (all_of xs)
+
+take_past : (xs ys : List ℕ) (k : ℕ) → xs ++ take k ys ≡ take (length xs + k) (xs ++ ys)
+take_past [] ys k = let none : k ≡ 0 + k = omega arith in ap (λ n. take n ys) none
+take_past (x ∷ xs) ys k =
+    let one : suc (length xs + k) ≡ suc (length xs) + k = omega arith in
+    ap (λ zs. x ∷ zs) (take_past xs ys k) ∙ ap (λ n. take n (x ∷ (xs ++ ys))) one
+
+-- the log was written, and a part of the verdict
+pub verdict_cut : (old new : History) (command : Command) (n k : ℕ) (ending : Ending) (log verdict : List ℕ) (a b c : Option (List ℕ))
+    (file : List ℕ → Option (Option (List ℕ))) (faults : List ℕ → ℕ) → budget_of command ≡ Some n →
+    IsEnded old.show n ending log verdict → LeavesAfter old (places command) (plan_ats old.show ending) new →
+    Appends a b log → Appends b c (take k verdict) → IsCut (PartsOf old Write (Ok command)) (outside a file faults) (outside c file faults)
+verdict_cut old new command n k ending log verdict a b c file faults is ended leaves first second = record {
+  fetched = absent;
+  part = log ++ take k verdict;
+  may = inr (inl (Text (log ++ verdict), new, ended_step old new command n ending log verdict is ended leaves, length log + k, take_past log verdict k));
+  told = tt;
+  bound = λ name. omega arith;
+  wrote = Appends-then a b c log (take k verdict) _ first second refl;
+}
+
+-- the frequencies of a plan are never refused as an edit
+pub admitted_ats : PlanIsAdmitted → (show : ShowData) (n : ℕ) (ending : Ending) (log : List LogLine) → IsSolved (case_of show) n log ending →
+    (ats : Option (List (Option ℕ))) → ats ≡ plan_ats show ending → (at : List (Option ℕ)) → ats ≡ Some at → IsAdmitted show (Place at)
+admitted_ats law show n (planned plan) log solved ats are at some =
+    let same : ◌≡◌ {A = Option (List (Option ℕ))} (plan_ats show (planned plan)) (Some at) = sym are ∙ some in
+    let P : Option (List (Option ℕ)) → Type 0 = λ o. elim o as (λ _. Type 0) [ None ↦ Unit {0} | Some x ↦ IsAdmitted show (Place x) ] in
+    subst P same (law show plan solved.ends)
+admitted_ats law show n refuted log solved ats are at some =
+    let same : ◌≡◌ {A = Option (List (Option ℕ))} None (Some at) = sym are ∙ some in cc
+admitted_ats law show n spent log solved ats are at some =
+    let same : ◌≡◌ {A = Option (List (Option ℕ))} None (Some at) = sym are ∙ some in cc
+
+-- an edit without a reason against it is not refused
+pub never_refused : (h : History) (e : Edit) (reason : Refusal) → IsAdmitted h.show e → edited_history h e ≡ Err reason → ⊥
+never_refused h e reason admitted is =
+    let made : after_unless (refusal h.show e) (edited h.show e) ≡ after_unless None (edited h.show e) = ap (λ r. after_unless r (edited h.show e)) admitted.free in
+    let clash : accepted h (after_unless None (edited h.show e)) ≡ Err reason = ap (accepted h) (sym made) ∙ is in
+    cc
+
+-- a call that gave no error
+pub of_ok : {X E : Type 0} (r : Result X E) (P : Type 0) → is_err r ≡ false → OnOk r P → P
+of_ok (Ok x) P fine holds = holds
+of_ok (Err e) P fine holds = cc
+
+-- what an edit by a plan leaves, in the words of the command and of the history's show
+pub leaves_here : (old new : History) (command : Command) (placing : Bool) (ats : Option (List (Option ℕ))) (show : ShowData) (ending : Ending) →
+    show ≡ old.show → placing ≡ places command → ats ≡ plan_ats show ending → LeavesAfter old placing ats new →
+    LeavesAfter old (places command) (plan_ats old.show ending) new
+leaves_here old new command placing ats show ending same is are leaves =
+    subst (λ (b : Bool). LeavesAfter old b (plan_ats old.show ending) new) is
+    (subst (λ (a : Option (List (Option ℕ))). LeavesAfter old placing a new) (are ∙ ap (λ s. plan_ats s ending) same) leaves)
