@@ -46,7 +46,7 @@ impl Model for Show {
 
 impl Show {
     /// How many carriers there may be.
-    pub const MAX_CARRIERS: usize = 64;
+    pub const MAX_CARRIERS: usize = rf_zones::MAX_CARRIERS;
 
     /// How many profiles there may be.
     pub const MAX_PROFILES: usize = 64;

@@ -30,9 +30,9 @@ impl Model for Slices {
 }
 
 impl Slices {
-    /// The slices of carriers with these times, at most 64. `NoMemory` where no memory is found.
+    /// The slices of carriers with these times, at most `MAX_CARRIERS`. `NoMemory` where no memory is found.
     pub fn of(alloc: Global, times: &[Times]) -> Result<Slices, NoMemory>
-        requires { length times.now ≤ 64 }
+        requires { length times.now ≤ MAX_CARRIERS }
         ensures common { IfOk result (λ masks. (set : List ℕ) → list_any (has_bits set) masks ≡ share_minute times.now set) }
         ensures real { IfOk result (λ masks. list_all (is_slice times.now) masks ≡ true) }
     {
@@ -54,7 +54,7 @@ impl Slices {
 
 // Adds the masks of the minutes in which these intervals begin.
 fn add_starts(masks: &mut Vec<Mask>, times: &[Times], list: &[(u16, u16)]) -> Result<(), NoMemory>
-    requires few { length times.now ≤ 64 }
+    requires few { length times.now ≤ MAX_CARRIERS }
     requires valid { list_all is_interval list.now ≡ true }
     ensures { IfOk result (λ _. (test : ℕ → Bool) → list_any test masks.new.items ≡ (list_any test masks.old.items || list_any (λ i. test (mask_at times.now i.0)) list.now)) }
 {
@@ -82,7 +82,7 @@ fn has_mask(masks: &[Mask], mask: Mask) -> bool
 
 // The carriers that are on in a minute.
 fn mask_at(times: &[Times], minute: u16) -> Mask
-    requires few { length times.now ≤ 64 }
+    requires few { length times.now ≤ MAX_CARRIERS }
     requires within { minute < 10080 }
     ensures { result ≡ mask_at times.now minute }
 {
