@@ -66,8 +66,8 @@ impl AnalysedShow {
         match self.show.apply(edit) {
             Err(reason) => Err(EditFault::Refused(reason)),
             Ok(undo) => match analyse(self.alloc, &self.show) {
-                Ok(analysis) => {
-                    self.analysis = analysis;
+                Ok(fresh) => {
+                    self.analysis = fresh;
                     Ok(undo)
                 }
                 Err(NoMemory) => {
