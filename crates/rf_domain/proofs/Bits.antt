@@ -325,7 +325,7 @@ clear_past size words padded k past = elim (cases_Bool (has_bit words k)) [
 
 -- the run of indices ends before the first bit that is not set, or with the size
 
-run_flag : (size : ℕ) (words : List ℕ) (set : List Bool) → IsPadded size words → flags_of size words ≡ set → (j : ℕ) → flag set j ≡ has_bit words j
+pub run_flag : (size : ℕ) (words : List ℕ) (set : List Bool) → IsPadded size words → flags_of size words ≡ set → (j : ℕ) → flag set j ≡ has_bit words j
 run_flag size words set padded is j = sym (ap (λ s. flag s j) is) ∙ flag-flags_of size words padded j
 
 pub run_to : (size from : ℕ) (words : List ℕ) (set : List Bool) → IsPadded size words → flags_of size words ≡ set → flag set from ≡ true

@@ -3,3 +3,4 @@ pub mod Counting
 pub mod Swept
 pub mod Lowest
 pub mod SetsLemmas
+pub mod Within

@@ -56,6 +56,14 @@ pub record IsOnly (set : List Bool) (k : ℕ) : Type 0 where
   pub here : flag set k ≡ true
   pub alone : (j : ℕ) → flag set j ≡ true → j ≡ k
 
+-- each bit that is set in the words is set in the others
+pub record HasBitsWithin (words others : List ℕ) : Type 0 where
+  pub each : (k : ℕ) → has_bit words k ≡ true → has_bit others k ≡ true
+
+-- each index of the inner set is in the outer set
+pub record IsWithin (inner outer : List Bool) : Type 0 where
+  pub each : (k : ℕ) → flag inner k ≡ true → flag outer k ≡ true
+
 -- all indices below the size are in the set
 pub record IsWhole (set : List Bool) (size : ℕ) : Type 0 where
   pub sized : length set ≡ size

@@ -1,5 +1,5 @@
 -- The sets of all carriers, seen as a list of lists of flags, and the removals of ranges from them.
-use Rattle.std.specs.Prelude.{◌≡◌, ℕ, zero, suc, ◌+◌, ◌≤◌, ◌==◌, List, [], length, map, Bool, not, ◌&&◌, ◌||◌, nat_lt, nat_le, slice_index_or, IsTrue}
+use Rattle.std.specs.Prelude.{◌≡◌, ℕ, zero, suc, ◌+◌, ◌≤◌, ◌==◌, List, [], length, map, Bool, true, not, ◌&&◌, ◌||◌, nat_lt, nat_le, slice_index_or, IsTrue}
 use Rattle.std.specs.List.{list_all}
 use Rattle.rf_domain.specs.declared.limits.TheConstants.{CARRIER_LIMIT, INDEX_LIMIT}
 use Rattle.rf_domain.specs.Indices.{flag, count_below}
@@ -44,3 +44,7 @@ pub record AreCounts (counts : List ℕ) : Type 0 where
 pub record AreFull (sets : List (List Bool)) (counts : List ℕ) : Type 0 where
   pub sized : sizes sets ≡ counts
   pub all : has sets ≡ full counts
+
+-- each index of a carrier's inner set is in its outer set
+pub record AreWithin (inner outer : List (List Bool)) : Type 0 where
+  pub each : (c k : ℕ) → has inner c k ≡ true → has outer c k ≡ true

@@ -1,6 +1,6 @@
-ghost use Rattle.std.specs.Prelude.{◌≡◌, ℕ, List, Bool, true, ◌<◌, ◌≤◌, [], length, slice_index_or, IfOk, MatchOption};
+ghost use Rattle.std.specs.Prelude.{◌≡◌, ℕ, List, Bool, true, ◌<◌, ◌≤◌, [], length, slice_index_or, IfOk, MatchOption, ◌↔◌};
 ghost use Rattle.rf_domain.specs.Indices.{HasNoneFrom, IsNext, IsOnly, IsRun, between, outside, count_below};
-ghost use Rattle.rf_domain.specs.Sets.{size_of, sizes, has, full, without, with_all, total_of, AreCounts, AreFull};
+ghost use Rattle.rf_domain.specs.Sets.{size_of, sizes, has, full, without, with_all, total_of, AreCounts, AreFull, AreWithin};
 
 use crate::limits::INDEX_LIMIT;
 use crate::set::IndexSet;
@@ -131,5 +131,29 @@ impl Domains {
             left += set.count() as u64;
         }
         left
+    }
+
+    /// Whether each index that is left is left in the others too, which were made for the same sizes.
+    pub fn is_within(&self, others: &Domains) -> bool
+        requires { sizes self.now ≡ sizes others.now }
+        ensures { (result ≡ true) ↔ AreWithin self.now others.now }
+    {
+        for carrier in 0..self.sets.len() {
+            if !self.sets[carrier].is_within(&others.sets[carrier]) {
+                return false;
+            }
+        }
+        true
+    }
+
+    /// The same sets. `NoMemory` where no memory is found.
+    pub fn copy(&self, alloc: Global) -> Result<Domains, NoMemory>
+        ensures { IfOk result (λ d. d ≡ self.now) }
+    {
+        let mut sets = Vec::new(alloc);
+        for set in &self.sets {
+            sets.push(set.copy(alloc)?)?;
+        }
+        Ok(Domains { sets })
     }
 }

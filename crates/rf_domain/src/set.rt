@@ -1,8 +1,8 @@
-ghost use Rattle.std.specs.Prelude.{◌≡◌, ℕ, List, Bool, true, not, ◌<◌, ◌≤◌, ◌&&◌, ◌||◌, length, IfOk, MatchOption};
-ghost use Rattle.rf_domain.specs.Indices.{flag, between, flags_of, IsKept, HasNoneFrom, IsNext, IsOnly, IsRun, IsWhole, count_below};
+ghost use Rattle.std.specs.Prelude.{◌≡◌, ℕ, List, Bool, true, not, ◌<◌, ◌≤◌, ◌&&◌, ◌||◌, length, IfOk, MatchOption, ◌↔◌};
+ghost use Rattle.rf_domain.specs.Indices.{flag, between, flags_of, IsKept, HasNoneFrom, IsNext, IsOnly, IsRun, IsWhole, IsWithin, count_below};
 
 use crate::limits::INDEX_LIMIT;
-use crate::words::{clear_range, fill_range, lowest_left, next_bit, next_clear};
+use crate::words::{are_within, clear_range, fill_range, lowest_left, next_bit, next_clear};
 use rf_base::NoMemory;
 use std::alloc::Global;
 use std::marker::Model;
@@ -137,5 +137,25 @@ impl IndexSet {
             return None;
         }
         Some(self.first)
+    }
+
+    /// Whether each index of the set is in the other too, which was made for the same size.
+    pub fn is_within(&self, other: &IndexSet) -> bool
+        requires { length self.now ≡ length other.now }
+        ensures { (result ≡ true) ↔ IsWithin self.now other.now }
+    {
+        are_within(&self.words, &other.words)
+    }
+
+    /// The same set. `NoMemory` where no memory is found.
+    pub fn copy(&self, alloc: Global) -> Result<IndexSet, NoMemory>
+        ensures { IfOk result (λ s. s ≡ self.now) }
+    {
+        Ok(IndexSet {
+            words: Vec::from_slice(alloc, &self.words)?,
+            size: self.size,
+            count: self.count,
+            first: self.first,
+        })
     }
 }

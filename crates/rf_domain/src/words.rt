@@ -1,6 +1,6 @@
-ghost use Rattle.std.specs.Prelude.{◌≡◌, ℕ, true, false, not, ◌+◌, ◌*◌, ◌<◌, ◌≤◌, ◌^◌, ◌&&◌, ◌||◌, ◌==◌, List, length, MatchOption};
+ghost use Rattle.std.specs.Prelude.{◌≡◌, ℕ, true, false, not, ◌+◌, ◌*◌, ◌<◌, ◌≤◌, ◌^◌, ◌&&◌, ◌||◌, ◌==◌, List, length, MatchOption, ◌↔◌};
 ghost use Rattle.std.specs.Int.{bit_at};
-ghost use Rattle.rf_domain.specs.Indices.{between, has_bit, IsFirstBit, IsFirstClear, IsLowest, IsPadded, count_below};
+ghost use Rattle.rf_domain.specs.Indices.{between, has_bit, IsFirstBit, IsFirstClear, IsLowest, IsPadded, HasBitsWithin, count_below};
 
 // A set of indices as words: index k is bit k % 64 of word k / 64.
 
@@ -92,6 +92,19 @@ pub fn next_clear(words: &[u64], from: u32) -> Option<u32>
         k = (k / 64 + 1) * 64;
     }
     None
+}
+
+/// Whether each bit that is set in the words is set in the others, which are as many.
+pub fn are_within(words: &[u64], others: &[u64]) -> bool
+    requires { length words.now ≡ length others.now }
+    ensures { (result ≡ true) ↔ HasBitsWithin words.now others.now }
+{
+    for i in 0..words.len() {
+        if lacking(others[i], words[i]) != 0 {
+            return false;
+        }
+    }
+    true
 }
 
 /// The lowest bit that is set, or the size, once the bits from `lo` to `hi` are cleared. Before, it was `first`.

@@ -1,5 +1,4 @@
 use Rattle.std.proofs.Common.{◌≡◌, ◌≤◌, ◌<◌, ◌*◌, ◌-◌, ℕ, List, true, length, subst, arith}
-use Rattle.std.specs.Prelude.{MatchOption}
 use Rattle.rf_domain.specs.Indices.{has_bit, IsFirstClear, IsRun}
 use Rattle.rf_domain.proofs.Bits.{run_to, run_out}
 use Rattle.rf_domain.proofs.Lowest.{sized}
