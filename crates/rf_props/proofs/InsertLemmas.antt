@@ -1,5 +1,5 @@
 -- A list with one element put in.
-use Rattle.std.proofs.Common.{◌≡◌, ◌∙◌, ℕ, zero, suc, ◌+◌, ◌<◌, Bool, true, false, not, List, [], ◌∷◌, ◌++◌, ◌==◌, ◌⊎◌, length, map, get_or, refl, sym, ap, inl, inr, arith}
+use Rattle.std.proofs.Common.{◌≡◌, ◌∙◌, ℕ, zero, suc, ◌+◌, ◌<◌, ◌≤◌, Bool, true, false, not, List, [], ◌∷◌, ◌++◌, ◌==◌, ◌⊎◌, length, map, get_or, refl, sym, ap, inl, inr, arith}
 use Rattle.std.specs.Prelude.{insert}
 use Rattle.std.specs.List.{list_all, remove}
 use Rattle.std.proofs.lemmas.Bool.{cases_Bool, cases_eq, and_parts, and_from, not-true, true≢false}
@@ -17,6 +17,13 @@ length_insert [] zero x = refl
 length_insert [] (suc i) x = refl
 length_insert (y ∷ ys) zero x = refl
 length_insert (y ∷ ys) (suc i) x = ap suc (length_insert ys i x)
+
+-- what stands behind the new element
+pub get_insert : (xs : List ℕ) (i x n : ℕ) → i ≤ n → n < length xs → get_or (insert xs i x) (suc n) 0 ≡ get_or xs n 0
+get_insert [] i x n after known = absurd (omega arith)
+get_insert (y ∷ ys) zero x n after known = refl
+get_insert (y ∷ ys) (suc i) x zero after known = absurd (omega arith)
+get_insert (y ∷ ys) (suc i) x (suc n) after known = get_insert ys i x n (omega arith) (omega arith)
 
 pub all_in_insert : (p : ℕ → Bool) (xs : List ℕ) (i x : ℕ) → list_all p (insert xs i x) ≡ true → (p x ≡ true) × (list_all p xs ≡ true)
 all_in_insert p [] zero x all = and_parts (p x) true all
@@ -63,6 +70,18 @@ among_insert (z ∷ zs) (suc i) x y among = elim (cases_Bool (z == y)) [
   | inr other ↦
       let rest : is_among zs y ≡ true = rw other at among in
       rw other (among_insert zs i x y rest)
+]
+
+-- one of the list that is not the new element is one of the others
+pub among_others : (xs : List ℕ) (i x y : ℕ) → is_among (insert xs i x) y ≡ true → (y == x) ≡ false → is_among xs y ≡ true
+among_others [] zero x y among other = grind (arith, nat_tests)
+among_others [] (suc i) x y among other = grind (arith, nat_tests)
+among_others (z ∷ zs) zero x y among other = grind (arith, nat_tests)
+among_others (z ∷ zs) (suc i) x y among other = elim (cases_Bool (z == y)) [
+  | inl here ↦ rw here
+  | inr apart ↦
+      let rest : is_among (insert zs i x) y ≡ true = rw apart at among in
+      rw apart (among_others zs i x y rest other)
 ]
 
 -- the others are distinct too

@@ -1,11 +1,12 @@
--- What is clear stays clear while no carrier comes to its last index.
-use Rattle.std.proofs.Common.{◌≡◌, ◌∙◌, ℕ, zero, suc, ◌<◌, ◌≤◌, ◌==◌, true, false, ◌||◌, ◌⊎◌, List, [], ◌∷◌, length, map, refl, sym, ap, subst, inl, inr, arith}
-use Rattle.std.specs.Prelude.{Option, Some, None, is_some}
+-- What is done stays done while less and less is left.
+use Rattle.std.proofs.Common.{◌≡◌, ◌∙◌, ℕ, zero, suc, ◌<◌, ◌≤◌, ◌==◌, Bool, true, false, ◌||◌, ◌⊎◌, List, [], ◌∷◌, ◌++◌, length, map, refl, sym, ap, subst, inl, inr, arith}
+use Rattle.std.specs.Prelude.{Option, Some, None, insert, is_some}
 use Rattle.std.specs.List.{list_all}
-use Rattle.std.proofs.lemmas.Bool.{cases_lt, cases_eq, and_parts, and_from, true≢false, ne_eqb, eq-eqb, le-leb, leb-true}
+use Rattle.std.proofs.lemmas.Bool.{cases_Bool, cases_lt, cases_eq, and_parts, and_from, true≢false, ne_eqb, eq-eqb, le-leb, leb-true}
+use Rattle.std.proofs.lemmas.Bool.Decides.{nat_tests}
 use Rattle.std.proofs.lemmas.List.{get_or_past}
 use Rattle.rf_terms.specs.declared.kind.Kind.{Kind}
-use Rattle.rf_log.specs.Case.{Case, count_of, counts_of, freq_of, margin_of, is_broken, breaks}
+use Rattle.rf_log.specs.Case.{Case, count_of, counts_of, freq_of, margin_of, is_among, is_broken, breaks}
 use Rattle.rf_log.specs.Box.{Box, only_index}
 use Rattle.rf_log.specs.Hints.{Line, indices_with}
 use Rattle.rf_log.proofs.Kept.{only_below-is}
@@ -15,11 +16,13 @@ use Rattle.rf_domain.proofs.Counting.{count_mono, count_same, count_sole, count_
 use Rattle.rf_trail.specs.Trace.{Trace, has_of}
 use Rattle.rf_propagate.specs.Laws.{Extends, same}
 use Rattle.rf_propagate.proofs.BothLaws.{grows_on, left_before}
-use Rattle.rf_props.specs.Sweeps.{left, has_at_most_one, NoneFixed, IsClear, IsSwept, IsKindDone}
+use Rattle.rf_props.specs.Flags.{is_flagged, AreSingles, HaveFew, AreFlagged}
+use Rattle.rf_props.specs.Sweeps.{left, has_at_most_one, NoneFixed, IsClear, IsSwept, IsReady, IsKindDone, AreKindsDone, AreAllDone}
 use Rattle.rf_props.proofs.CountLemmas.{count_any}
+use Rattle.rf_props.proofs.InsertLemmas.{all_in_insert, among_others}
 use Rattle.rf_props.proofs.InstanceLemmas.{clear_unbroken, ruled_at}
 use Rattle.rf_props.proofs.SingleLemmas.{only_below-some, only_below-here}
-use Rattle.rf_props.proofs.StrikeLemmas.{sized_left}
+use Rattle.rf_props.proofs.StrikeLemmas.{sized_left, apart_of}
 
 -- the trail went on, and each new entry has a reason
 pub record GoesOn (case : Case) (old new : Trace) : Type 0 where
@@ -45,12 +48,6 @@ few_stay {case} {a} {b} on c few =
     let had : count_below (left a c) (size_of a.counts c) ≤ 1 = leb-true _ _ few in
     let size : size_of b.counts c ≡ size_of a.counts c = ap (λ ns. size_of ns c) on.counts in
     le-leb _ _ (subst (λ (n : ℕ). count_below (left b c) n ≤ 1) (sym size) (omega (arith, less, had)))
-
-pub none_fixed_first : {case : Case} {a b c : Trace} → GoesOn case b c → NoneFixed a c → NoneFixed a b
-none_fixed_first second still = record { each = λ x few. still.each x (few_stay second x few) }
-
-pub none_fixed_second : {case : Case} {a b c : Trace} → GoesOn case a b → NoneFixed a c → NoneFixed b c
-none_fixed_second first still = record { each = λ x few. few_stay first x (still.each x few) }
 
 cases_zero : (m : ℕ) → (m ≡ 0) ⊎ (1 ≤ m)
 cases_zero zero = inl refl
@@ -89,53 +86,168 @@ only_before {case} {a} {b} on counts still o k only =
           | inr some ↦ omega (arith, most, some)
         ]
 
-only_same : {case : Case} {a b : Trace} → GoesOn case a b → a.counts ≡ counts_of case → NoneFixed a b → (o : ℕ) → is_some (only_index case (left b) o) ≡ true
-    → only_index case (left a) o ≡ only_index case (left b) o
-only_same {case} {a} {b} on counts still o some = by (only_index case (left b) o) refl some
-  where
-    by : (x : Option ℕ) → only_index case (left b) o ≡ x → is_some x ≡ true → only_index case (left a) o ≡ only_index case (left b) o
-    by None e none = absurd (true≢false (sym none))
-    by (Some k) e some = only_before on counts still o k e ∙ sym e
-
-one_role : (case : Case) (old new : Box) (c k o : ℕ) → (is_some (only_index case new o) ≡ true → only_index case old o ≡ only_index case new o)
+one_role : (case : Case) (old new : Box) (c k o : ℕ) → ((o == c) ≡ false → is_some (only_index case new o) ≡ true → only_index case old o ≡ only_index case new o)
     → ((o == c) || is_some (only_index case new o)) ≡ true → (o ≡ c) ⊎ (o ≡ c → ⊥)
     → (((o == c) || is_some (only_index case old o)) ≡ true) × (freq_of case o (indices_with case old c k o) ≡ freq_of case o (indices_with case new c k o))
 one_role case old new c k o was_same known (inl e) = let here : (o == c) ≡ true = eq-eqb o c e in (rw here, rw here)
 one_role case old new c k o was_same known (inr e) =
     let other : (o == c) ≡ false = ne_eqb o c e in
     let some : is_some (only_index case new o) ≡ true = rw other at known in
-    let was : only_index case old o ≡ only_index case new o = was_same some in
+    let was : only_index case old o ≡ only_index case new o = was_same other some in
     (rw (other, was) some, rw (other, was))
 
+-- the other roles had these indices as their one index before
+abbrev pub WereSame : Case → Box → Box → ℕ → List ℕ → Type 0
+WereSame case old new c roles = (o : ℕ) → is_among roles o ≡ true → (o == c) ≡ false → is_some (only_index case new o) ≡ true → only_index case old o ≡ only_index case new o
+
+among_first : (o : ℕ) (os : List ℕ) → is_among (o ∷ os) o ≡ true
+among_first o os = grind (arith, nat_tests)
+
+among_later : (o : ℕ) (os : List ℕ) (r : ℕ) → is_among os r ≡ true → is_among (o ∷ os) r ≡ true
+among_later o os r among = grind (arith, nat_tests)
+
 -- the roles of an instance were fixed before, with the same frequencies
-each_role : (case : Case) (old new : Box) (c k : ℕ) → ((o : ℕ) → is_some (only_index case new o) ≡ true → only_index case old o ≡ only_index case new o)
-    → (roles : List ℕ) → list_all (λ o. (o == c) || is_some (only_index case new o)) roles ≡ true
+each_role : (case : Case) (old new : Box) (c k : ℕ) (roles : List ℕ) → WereSame case old new c roles → list_all (λ o. (o == c) || is_some (only_index case new o)) roles ≡ true
     → (list_all (λ o. (o == c) || is_some (only_index case old o)) roles ≡ true)
     × (map (λ o. freq_of case o (indices_with case old c k o)) roles ≡ map (λ o. freq_of case o (indices_with case new c k o)) roles)
-each_role case old new c k was_same [] all = (refl, refl)
-each_role case old new c k was_same (o ∷ os) all =
+each_role case old new c k [] was_same all = (refl, refl)
+each_role case old new c k (o ∷ os) was_same all =
     let parts = and_parts ((o == c) || is_some (only_index case new o)) _ all in
-    let here = one_role case old new c k o (was_same o) parts.0 (cases_eq o c) in
-    let rest = each_role case old new c k was_same os parts.1 in (
+    let here = one_role case old new c k o (was_same o (among_first o os)) parts.0 (cases_eq o c) in
+    let rest = each_role case old new c k os (λ r among. was_same r (among_later o os r among)) parts.1 in (
       and_from _ _ here.0 rest.0,
       ap (λ f. f ∷ map (λ r. freq_of case r (indices_with case old c k r)) os) here.1 ∙ ap (λ fs. freq_of case o (indices_with case new c k o) ∷ fs) rest.1,
     )
 
-pub clear_on : {case : Case} {a b : Trace} → GoesOn case a b → a.counts ≡ counts_of case → NoneFixed a b → (kind : Kind) (roles : List ℕ) (c : ℕ)
-    → IsClear case (left a) kind roles c → IsClear case (left b) kind roles c
-clear_on {case} {a} {b} on counts still kind roles c clear =
-    clear_unbroken case (left b) kind roles c (λ k here. sized_left case b (on.counts ∙ counts) c k here)
+-- each index of the box is one of its carrier's
+abbrev pub AreSized : Case → Box → Type 0
+AreSized case has = (c k : ℕ) → has c k ≡ true → k < count_of case c
+
+-- each index of the second box is in the first
+abbrev pub AreLess : Box → Box → Type 0
+AreLess old new = (c k : ℕ) → new c k ≡ true → old c k ≡ true
+
+-- what is clear stays clear with less, where the other roles were the same
+pub clear_less : (case : Case) (old new : Box) → AreSized case new → AreLess old new → (kind : Kind) (roles : List ℕ) (c : ℕ) → WereSame case old new c roles
+    → IsClear case old kind roles c → IsClear case new kind roles c
+clear_less case old new sized less kind roles c was_same clear =
+    clear_unbroken case new kind roles c (λ k here. sized c k here)
     (λ k here good sole broken.
-    let was = each_role case (left a) (left b) c k (only_same on counts still) roles sole in
-    let broken' : breaks case kind roles (indices_with case (left a) c k) ≡ true = ap (λ fs. is_broken kind fs (margin_of case kind roles)) was.1 ∙ broken in
-    true≢false (sym (ruled_at case (left a) kind roles c k good was.0 broken') ∙ clear.each k (left_earlier on c k here)))
+    let was = each_role case old new c k roles was_same sole in
+    let broken' : breaks case kind roles (indices_with case old c k) ≡ true = ap (λ fs. is_broken kind fs (margin_of case kind roles)) was.1 ∙ broken in
+    true≢false (sym (ruled_at case old kind roles c k good was.0 broken') ∙ clear.each k (less c k here)))
 
-pub swept_on : {case : Case} {a b : Trace} → GoesOn case a b → a.counts ≡ counts_of case → NoneFixed a b → (kind : Kind) (place : ℕ) (first : List ℕ)
-    → IsSwept case (left a) kind place first → IsSwept case (left b) kind place first
-swept_on on counts still kind place first swept = record { each = λ rest c whole. clear_on on counts still kind _ c (swept.each rest c whole) }
+-- a carrier with at most one index had its one index before
+pub only_few : (case : Case) (old new : Box) (flags : List Bool) → AreLess old new → HaveFew old flags → (o : ℕ) → is_flagged flags o ≡ true → is_some (only_index case new o) ≡ true
+    → only_index case old o ≡ only_index case new o
+only_few case old new flags less few o flagged some = by (only_index case new o) refl some
+  where
+    by : (x : Option ℕ) → only_index case new o ≡ x → is_some x ≡ true → only_index case old o ≡ only_index case new o
+    by None e none = absurd (true≢false (sym none))
+    by (Some k) e some =
+        let here = only_below-here (count_of case o) (new o) k e in
+        let had : old o k ≡ true = less o k here.1 in
+        only_below-some (count_of case o) (old o) k here.0 had (λ j there. few.each o j k flagged there had) ∙ sym e
 
-pub kind_on : {case : Case} {a b : Trace} → GoesOn case a b → a.counts ≡ counts_of case → NoneFixed a b → (kind : Kind) → IsKindDone case (left a) kind → IsKindDone case (left b) kind
-kind_on on counts still kind done = record { each = λ place low. swept_on on counts still kind place [] (done.each place low) }
+pub few_less : {old new : Box} {flags : List Bool} → AreLess old new → HaveFew old flags → HaveFew new flags
+few_less less few = record { each = λ c j k flagged here there. few.each c j k flagged (less c j here) (less c k there) }
+
+-- one that passes the test among those that all do
+pub among_all : (p : ℕ → Bool) (xs : List ℕ) (o : ℕ) → list_all p xs ≡ true → is_among xs o ≡ true → p o ≡ true
+among_all p [] o all among = absurd (true≢false (sym among))
+among_all p (x ∷ xs) o all among =
+    let parts = and_parts (p x) (list_all p xs) all in
+    elim (cases_eq x o) [
+      | inl e ↦ subst (λ (y : ℕ). p y ≡ true) e parts.0
+      | inr e ↦ let later : is_among xs o ≡ true = grind (arith, nat_tests) in among_all p xs o parts.1 later
+    ]
+
+-- a carrier with many indices is in no struck instance
+many_among : (case : Case) (has : Box) (xs : List ℕ) (c : ℕ) → is_among xs c ≡ false → list_all (λ o. (o == c) || is_some (only_index case has o)) xs ≡ true
+    → list_all (λ o. is_some (only_index case has o)) xs ≡ true
+many_among case has [] c apart all = refl
+many_among case has (x ∷ xs) c apart all =
+    let parts = and_parts ((x == c) || is_some (only_index case has x)) _ all in
+    let other : (x == c) ≡ false = grind (arith, nat_tests) in
+    let rest : is_among xs c ≡ false = grind (arith, nat_tests) in
+    let here : is_some (only_index case has x) ≡ true = rw other at parts.0 in
+    rw here (many_among case has xs c rest parts.1)
+
+-- nothing breaks an instance of which another carrier has not exactly one index
+pub many_clear : (case : Case) (has : Box) (kind : Kind) (place : ℕ) (others : List ℕ) (c : ℕ) → AreSized case has → list_all (λ o. is_some (only_index case has o)) others ≡ false
+    → IsClear case has kind (insert others place c) c
+many_clear case has kind place others c sized many =
+    clear_unbroken case has kind (insert others place c) c (λ k here. sized c k here)
+    (λ k here good sole broken.
+    let apart = apart_of case kind others place c good in
+    let all = all_in_insert (λ o. (o == c) || is_some (only_index case has o)) others place c sole in
+    true≢false (sym (many_among case has others c apart all.1) ∙ many))
+
+-- where the others have one index each, they are flagged, and else there is nothing to do
+pub clear_flagged : (case : Case) (new : Box) (flags : List Bool) (kind : Kind) (place : ℕ) (others : List ℕ) (c : ℕ) → AreSized case new → AreFlagged case new flags others
+    → (((o : ℕ) → is_among others o ≡ true → is_flagged flags o ≡ true) → IsClear case new kind (insert others place c) c) → IsClear case new kind (insert others place c) c
+clear_flagged case new flags kind place others c sized flagged clear = elim (cases_Bool (list_all (λ o. is_some (only_index case new o)) others)) [
+  | inl all ↦ clear (λ o among. flagged.each o among (among_all (λ x. is_some (only_index case new x)) others o all among))
+  | inr many ↦ many_clear case new kind place others c sized many
+]
+
+were_same : (case : Case) (old new : Box) (flags : List Bool) (place : ℕ) (others : List ℕ) (c : ℕ) → AreLess old new → HaveFew old flags → ((o : ℕ) → is_among others o ≡ true → is_flagged flags o ≡ true)
+    → WereSame case old new c (insert others place c)
+were_same case old new flags place others c less few flagged = λ o among other some. only_few case old new flags less few o (flagged o (among_others others place c o among other)) some
+
+-- what is swept stays swept with less
+pub swept_less : (case : Case) (old new : Box) (flags : List Bool) → AreSized case new → AreLess old new → HaveFew old flags → (kind : Kind) (place : ℕ) (first : List ℕ)
+    → IsSwept case old flags kind place first → IsSwept case new flags kind place first
+swept_less case old new flags sized less few kind place first swept = record {
+  each = λ rest c whole flagged.
+      clear_flagged case new flags kind place (first ++ rest) c sized flagged
+      (λ all. clear_less case old new sized less kind (insert (first ++ rest) place c) c (were_same case old new flags place (first ++ rest) c less few all)
+      (swept.each rest c whole (record { each = λ o among some. all o among })));
+}
+
+-- the same for what is done with all carriers
+pub done_less : (case : Case) (old new : Box) (flags : List Bool) (kinds : List Kind) → AreSized case new → AreLess old new → HaveFew old flags → AreAllDone case old kinds → AreKindsDone case new flags kinds
+done_less case old new flags kinds sized less few done = record {
+  each = λ kind among. record {
+    each = λ place low. record {
+      each = λ rest c whole flagged.
+          clear_flagged case new flags kind place rest c sized flagged
+          (λ all. clear_less case old new sized less kind (insert rest place c) c (were_same case old new flags place rest c less few all) (done.each kind among place low rest c whole));
+    };
+  };
+}
+
+pub few_on : {case : Case} {a b : Trace} {flags : List Bool} → GoesOn case a b → HaveFew (left a) flags → HaveFew (left b) flags
+few_on on few = few_less (left_earlier on) few
+
+pub swept_on : {case : Case} {a b : Trace} {flags : List Bool} → GoesOn case a b → a.counts ≡ counts_of case → HaveFew (left a) flags → (kind : Kind) (place : ℕ) (first : List ℕ)
+    → IsSwept case (left a) flags kind place first → IsSwept case (left b) flags kind place first
+swept_on {case} {a} {b} {flags} on counts few kind place first swept =
+    swept_less case (left a) (left b) flags (sized_left case b (on.counts ∙ counts)) (left_earlier on) few kind place first swept
+
+pub kind_on : {case : Case} {a b : Trace} {flags : List Bool} → GoesOn case a b → a.counts ≡ counts_of case → HaveFew (left a) flags → (kind : Kind) → IsKindDone case (left a) flags kind → IsKindDone case (left b) flags kind
+kind_on on counts few kind done = record { each = λ place low. swept_on on counts few kind place [] (done.each place low) }
+
+pub kinds_on : {case : Case} {a b : Trace} {flags : List Bool} → GoesOn case a b → a.counts ≡ counts_of case → HaveFew (left a) flags → (kinds : List Kind) → AreKindsDone case (left a) flags kinds → AreKindsDone case (left b) flags kinds
+kinds_on on counts few kinds done = record { each = λ kind among. kind_on on counts few kind (done.each kind among) }
+
+pub ready_on : {case : Case} {a b : Trace} {single known : List Bool} {kind : Kind} {place : ℕ} → GoesOn case a b → a.counts ≡ counts_of case → IsReady case (left a) single known kind place → IsReady case (left b) single known kind place
+ready_on {kind = kind} {place = place} on counts ready = record { few = few_on on ready.few; few_known = few_on on ready.few_known; done = swept_on on counts ready.few_known kind place [] ready.done }
+
+-- where no carrier came to its last index, what is done with the carriers that were single is done with all
+pub all_done : {case : Case} {start now : Trace} {single : List Bool} → GoesOn case start now → start.counts ≡ counts_of case → NoneFixed start now → AreSingles case (left start) single → (kinds : List Kind)
+    → AreKindsDone case (left now) single kinds → AreAllDone case (left now) kinds
+all_done {case} {start} {now} {single} on counts still singles kinds done = record {
+  each = λ kind among place low others c whole.
+      ((done.each kind among).each place low).each others c whole (record { each = λ o here some. singles.all o (was_single o some) });
+}
+  where
+    was_single : (o : ℕ) → is_some (only_index case (left now) o) ≡ true → is_some (only_index case (left start) o) ≡ true
+    was_single o some = by (only_index case (left now) o) refl some
+      where
+        by : (x : Option ℕ) → only_index case (left now) o ≡ x → is_some x ≡ true → is_some (only_index case (left start) o) ≡ true
+        by None e none = absurd (true≢false (sym none))
+        by (Some k) e some = ap is_some (only_before on counts still o k e)
 
 -- as many carriers as before have at most one index
 abbrev pub fixed_of : Trace → ℕ

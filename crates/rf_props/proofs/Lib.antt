@@ -12,3 +12,5 @@ pub mod SweepLemmas
 pub mod SettleLemmas
 pub mod BanLemmas
 pub mod KindLemmas
+pub mod FlagLemmas
+pub mod RestLemmas

@@ -1,6 +1,6 @@
 -- Marks of what may be left.
 use Rattle.std.proofs.Common.{◌≡◌, ◌∙◌, ℕ, ◌+◌, ◌-◌, ◌/◌, ◌^◌, ◌<◌, ◌≤◌, Bool, true, false, not, ◌||◌, ◌⊎◌, List, [], length, get_or, refl, sym, ap, subst, inl, inr, arith, pow_pos}
-use Rattle.std.specs.Prelude.{nat_le, pos, ℤ, ◌≤ℤ◌}
+use Rattle.std.specs.Prelude.{nat_le, pos, ℤ, ◌≤ℤ◌, ◌<ℤ◌, ◌↔◌}
 use Rattle.std.specs.List.Sorted.{IsStrictlyIncreasing}
 use Rattle.std.proofs.Math.Nat.{div-mul-le_self}
 use Rattle.std.proofs.lemmas.Nat.{le-div}
@@ -14,10 +14,10 @@ use Rattle.rf_domain.specs.Sets.{has, with_all, without}
 use Rattle.rf_domain.proofs.Counting.{lt_cases}
 use Rattle.rf_trail.specs.Trace.{Trace}
 use Rattle.rf_props.specs.Sweeps.{left, HasNoneOf, HasNoneWithin}
-use Rattle.rf_props.specs.Ranges.{IsIn, HasNoneIn, IsRangeOf}
+use Rattle.rf_props.specs.Ranges.{IsIn, AreBelow}
 use Rattle.rf_props.specs.Live.{Marks, cell_of, is_marked, IsMarkedAt, AreMarked}
 use Rattle.rf_props.proofs.KeptLemmas.{GoesOn, left_earlier}
-use Rattle.rf_props.proofs.RangeLemmas.{rising_le}
+use Rattle.rf_props.proofs.RangeLemmas.{rising_le, from_first}
 use Rattle.rf_props.proofs.StrikeLemmas.{sized_left}
 
 -- the higher frequency has no lower cell
@@ -62,15 +62,15 @@ far_next m from next last lo hi f is_from is_last here beyond over under =
 pub far_none : (m : Marks) (from lo f : ℕ) → from ≡ cell_of m lo → HasNoneFrom (get_or m.cells 0 []) from → lo ≤ f → is_marked m f ≡ false
 far_none m from lo f is_from none over = none.none (cell_of m f) (omega (arith, is_from, cell_mono m lo f over))
 
-above_low : (lo : ℤ) (low f : ℕ) → (pos f ≤ℤ lo → f ≤ low) → low < f → lo ≤ℤ pos f
+above_low : (lo : ℤ) (low f : ℕ) → (pos f <ℤ lo → f ≤ low) → low < f → lo ≤ℤ pos f
 above_low lo low f below later = grind (arith, ints)
 
-below_high : (hi : ℤ) (high f : ℕ) → (hi ≤ℤ pos f → high ≤ f) → f < high → pos f ≤ℤ hi
+below_high : (hi : ℤ) (high f : ℕ) → (hi <ℤ pos f → high ≤ f) → f < high → pos f ≤ℤ hi
 below_high hi high f above earlier = grind (arith, ints)
 
 -- a frequency whose cell lies between those of two others lies between them
 pub unmark_keeps : (m : Marks) (sets : List (List Bool)) (first end low high f : ℕ) (lo hi : ℤ) → first ≡ cell_of m low + 1 → end ≡ cell_of m high → has sets ≡ without (has m.cells) 0 (between first (end - 1))
-    → (pos f ≤ℤ lo → f ≤ low) → (hi ≤ℤ pos f → high ≤ f) → first < end → (IsIn lo hi f → ⊥) → is_marked m f ≡ true → is_marked (with_cells m sets) f ≡ true
+    → (pos f <ℤ lo → f ≤ low) → (hi <ℤ pos f → high ≤ f) → first < end → (IsIn lo hi f → ⊥) → is_marked m f ≡ true → is_marked (with_cells m sets) f ≡ true
 unmark_keeps m sets first end low high f lo hi is_first is_end is below above some out marked =
     ap (λ h. h 0 (cell_of m f)) is ∙ and_from (has m.cells 0 (cell_of m f)) (not (between first (end - 1) (cell_of m f))) marked (outside (cases_Bool (between first (end - 1) (cell_of m f))))
   where
@@ -200,22 +200,32 @@ unmarked_within case box old new lo hi are none keeps = record {
   };
 }
 
--- nothing of a carrier's is left where none of its frequencies lies, or none of those that do is left
-pub none_in : (case : Case) (t : Trace) (freqs : List ℕ) (c : ℕ) (lo hi : ℤ) → t.counts ≡ counts_of case → freqs ≡ (carrier_of case c).freqs → HasNoneIn freqs lo hi → HasNoneOf case (left t) c lo hi
-none_in case t freqs c lo hi counts is none = record {
+-- nothing of a carrier's is left from the first number on, or what is left begins above the second one
+pub none_from : (case : Case) (t : Trace) (sets : List (List Bool)) (freqs : List ℕ) (c first low : ℕ) (lo hi : ℤ) → t.counts ≡ counts_of case → has sets ≡ left t → AreFreqs case freqs c
+    → ((f : ℕ) → f ≤ 10000000 → (f < low) ↔ (pos f <ℤ lo)) → AreBelow freqs low first → HasNoneFrom (get_or sets c []) first → HasNoneOf case (left t) c lo hi
+none_from case t sets freqs c first low lo hi counts is are from below none = record {
   none = λ k here inside.
-      let size : length freqs ≡ count_of case c = ap length is in
-      none.none k (omega (arith, sized_left case t counts c k here, size)) (subst (IsIn lo hi) (sym (ap (λ fs. get_or fs k 0) is)) inside);
+      let known = known_at case t sets freqs c k counts is are (ap (λ f. f c k) is ∙ here) in
+      let inside' : IsIn lo hi (get_or freqs k 0) = subst (IsIn lo hi) (sym (freq_at case freqs c k are)) inside in
+      true≢false (sym (ap (λ f. f c k) is ∙ here) ∙ none.none k (from_first freqs low first k lo hi are.small from below known inside'));
 }
 
-pub none_of : (case : Case) (t : Trace) (freqs : List ℕ) (c first last : ℕ) (lo hi : ℤ) → t.counts ≡ counts_of case → freqs ≡ (carrier_of case c).freqs → IsRangeOf freqs lo hi first last
-    → ((k : ℕ) → between first last k ≡ true → left t c k ≡ false) → HasNoneOf case (left t) c lo hi
-none_of case t freqs c first last lo hi counts is range gone = record {
+pub none_next : (case : Case) (t : Trace) (sets : List (List Bool)) (freqs : List ℕ) (c first next low : ℕ) (lo hi : ℤ) → t.counts ≡ counts_of case → has sets ≡ left t → AreFreqs case freqs c
+    → ((f : ℕ) → f ≤ 10000000 → (f < low) ↔ (pos f <ℤ lo)) → AreBelow freqs low first → IsNext (get_or sets c []) first next → hi <ℤ pos (get_or freqs next 0) → HasNoneOf case (left t) c lo hi
+none_next case t sets freqs c first next low lo hi counts is are from below next_is beyond = record {
   none = λ k here inside.
-      let size : length freqs ≡ count_of case c = ap length is in
-      let at = range.all k (omega (arith, sized_left case t counts c k here, size)) (subst (IsIn lo hi) (sym (ap (λ fs. get_or fs k 0) is)) inside) in
-      true≢false (sym here ∙ gone k (in_between first last k at.0 at.1));
+      let there : flag (get_or sets c []) k ≡ true = ap (λ f. f c k) is ∙ here in
+      let known = known_at case t sets freqs c k counts is are there in
+      let inside' : IsIn lo hi (get_or freqs k 0) = subst (IsIn lo hi) (sym (freq_at case freqs c k are)) inside in
+      let late : first ≤ k = from_first freqs low first k lo hi are.small from below known inside' in
+      elim (cases_lt k next) [
+        | inl earlier ↦ true≢false (sym there ∙ next_is.least k late earlier)
+        | inr later ↦ let higher = rising_le freqs are.rising next k later known in absurd (omega (arith, ints, inside'.1, beyond, higher))
+      ];
 }
+
+pub none_at_ends : {case : Case} {box : Box} {c : ℕ} {lo hi lo' hi' : ℤ} → lo' ≡ lo → hi' ≡ hi → HasNoneOf case box c lo' hi' → HasNoneOf case box c lo hi
+none_at_ends {case} {box} {c} {lo} {hi} {lo'} {hi'} e f none = subst (λ (x : ℤ). HasNoneOf case box c x hi) e (subst (λ (x : ℤ). HasNoneOf case box c lo' x) f none)
 
 -- the first so many carriers have nothing left there
 pub record NoneUpTo (case : Case) (box : Box) (lo hi : ℤ) (n : ℕ) : Type 0 where
@@ -228,6 +238,10 @@ none_more {case} {box} {lo} {hi} {n} so here = record {
     | inr last ↦ subst (λ (x : ℕ). HasNoneOf case box x lo hi) (sym last) here
   ];
 }
+
+-- what isn't left doesn't come back
+pub none_on : {case : Case} {a b : Trace} {lo hi : ℤ} {n : ℕ} → GoesOn case a b → NoneUpTo case (left a) lo hi n → NoneUpTo case (left b) lo hi n
+none_on {case} {a} {b} {lo} {hi} {n} on so = record { each = λ c low. record { none = λ k here. (so.each c low).none k (left_earlier on c k here) } }
 
 pub none_all : (case : Case) (box : Box) (lo hi : ℤ) (n : ℕ) → length case.carriers ≤ n → NoneUpTo case box lo hi n → HasNoneWithin case box lo hi
 none_all case box lo hi n all so = record { each = λ c low. so.each c (omega arith) }

@@ -78,6 +78,16 @@ range_none freqs lo hi low high first end small from upto below above crossed = 
       ];
 }
 
+-- what lies in a range stands behind what is below it
+pub from_first : (freqs : List ℕ) (low first k : ℕ) (lo hi : ℤ) → AreFrequencies freqs → ((f : ℕ) → f ≤ 10000000 → (f < low) ↔ (pos f <ℤ lo)) → AreBelow freqs low first
+    → k < length freqs → IsIn lo hi (get_or freqs k 0) → first ≤ k
+from_first freqs low first k lo hi small from below known within =
+    let fits : get_or freqs k 0 ≤ 10000000 = small k 0 known in
+    elim (cases_lt k first) [
+      | inl earlier ↦ let less : pos (get_or freqs k 0) <ℤ lo = (from (get_or freqs k 0) fits).0 (below.below k earlier) in absurd (omega (arith, ints, within.0, less))
+      | inr later ↦ later
+    ]
+
 from_below : (f low : ℕ) (lo : ℤ) → (f < low) ↔ (pos f <ℤ lo) → low ≤ f → lo ≤ℤ pos f
 from_below f low lo same over = grind (arith, ints, same.1)
 
@@ -99,12 +109,7 @@ range_some freqs lo hi low high first end small from upto below above some = rec
         (from_below (get_or freqs k 0) low lo (from (get_or freqs k 0) fits) not_low, (upto (get_or freqs k 0) fits).0 (above.below k (omega arith)))
 
     late : (k : ℕ) → k < length freqs → IsIn lo hi (get_or freqs k 0) → first ≤ k
-    late k known within =
-        let fits : get_or freqs k 0 ≤ 10000000 = small k 0 known in
-        elim (cases_lt k first) [
-          | inl earlier ↦ let less : pos (get_or freqs k 0) <ℤ lo = (from (get_or freqs k 0) fits).0 (below.below k earlier) in absurd (omega (arith, ints, within.0, less))
-          | inr later ↦ later
-        ]
+    late k known within = from_first freqs low first k lo hi small from below known within
 
     early : (k : ℕ) → k < length freqs → IsIn lo hi (get_or freqs k 0) → k ≤ end - 1
     early k known within =
@@ -114,6 +119,15 @@ range_some freqs lo hi low high first end small from upto below above some = rec
           | inl earlier ↦ omega arith
           | inr later ↦ absurd (omega (arith, above.above k later known, less))
         ]
+
+-- the first numbers are below, and the one behind them isn't
+pub below_at : (freqs : List ℕ) (number n : ℕ) → IsStrictlyIncreasing freqs → n ≤ length freqs → (0 < n → get_or freqs (n - 1) 0 < number) → (n < length freqs → number ≤ get_or freqs n 0)
+    → AreBelow freqs number n
+below_at freqs number n rising few last next = record {
+  few = few;
+  below = λ k under. omega (arith, rising_le freqs rising k (n - 1) (omega arith) (omega arith), last (omega arith));
+  above = λ k over known. omega (arith, rising_le freqs rising n k over known, next (omega arith));
+}
 
 -- the ends of a range as the code has them
 pub none_at : (freqs : List ℕ) (lo hi lo' hi' : ℤ) → lo' ≡ lo → hi' ≡ hi → HasNoneIn freqs lo' hi' → HasNoneIn freqs lo hi

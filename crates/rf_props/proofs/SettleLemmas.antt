@@ -1,5 +1,5 @@
 -- When nothing more is struck.
-use Rattle.std.proofs.Common.{◌≡◌, ◌∙◌, ℕ, zero, suc, ◌+◌, ◌<◌, ◌≤◌, ◌==◌, true, false, ◌||◌, List, [], ◌∷◌, length, map, get_or, refl, sym, ap, subst, inl, inr, arith}
+use Rattle.std.proofs.Common.{◌≡◌, ◌∙◌, ℕ, zero, suc, ◌+◌, ◌<◌, ◌≤◌, ◌==◌, Bool, true, false, ◌||◌, List, [], ◌∷◌, length, map, get_or, refl, sym, ap, subst, inl, inr, arith}
 use Rattle.std.specs.Prelude.{Result, Ok, Err, OnOk, drop, take, ◌-◌, Contains, Some, insert, is_some}
 use Rattle.std.specs.List.{remove}
 use Rattle.std.proofs.lemmas.Bool.{cases_eq, true≢false, ne_eqb, eq-eqb, eqb-true, and_parts}
@@ -9,18 +9,19 @@ use Rattle.std.proofs.lemmas.List.Elements.{Contains-get_or}
 use Rattle.rf_terms.specs.declared.kind.Kind.{Kind}
 use Rattle.rf_terms.specs.Kinds.{roles_of}
 use Rattle.rf_log.specs.Case.{Case, count_of, counts_of, freq_of, margin_of, is_instance, is_in_order, are_distinct, are_together, is_broken, breaks}
-use Rattle.rf_log.specs.Box.{only_index}
+use Rattle.rf_log.specs.Box.{Box, only_index}
 use Rattle.rf_log.specs.Relations.{IsStruck, IsSettled, IsLiving}
 use Rattle.rf_log.specs.Hints.{indices_with, is_ruled_out}
 use Rattle.rf_domain.proofs.Counting.{lt_cases, count_bound}
 use Rattle.rf_trail.specs.Trace.{Trace, box_of}
 use Rattle.rf_propagate.specs.Laws.{IsQuiet}
-use Rattle.rf_props.specs.Sweeps.{left, has_at_most_one, IsClear, IsSwept, IsKindDone, AreKindsDone, NoneFixed, WhenNoneFixed}
+use Rattle.rf_props.specs.Flags.{AreSingles, HaveFew}
+use Rattle.rf_props.specs.Sweeps.{left, has_at_most_one, IsClear, IsSwept, IsKindDone, AreKindsDone, AreAllDone}
 use Rattle.rf_props.proofs.InsertLemmas.{insert_remove, length_remove}
 use Rattle.rf_props.proofs.SingleLemmas.{only_below-some}
 use Rattle.rf_props.proofs.StrikeLemmas.{sized_left}
 use Rattle.rf_props.proofs.InstanceLemmas.{ruled_at}
-use Rattle.rf_props.proofs.KeptLemmas.{GoesOn, goes_on, stays, swept_on, kind_on, none_fixed_first, none_fixed_second, fixed_of, more_fixed, same_fixed}
+use Rattle.rf_props.proofs.KeptLemmas.{GoesOn, goes_on, stays, swept_on, kind_on, fixed_of, more_fixed, same_fixed, all_done}
 
 map_same : (f g : ℕ → ℕ) (xs : List ℕ) → ((i : ℕ) → i < length xs → f (get_or xs i 0) ≡ g (get_or xs i 0)) → map f xs ≡ map g xs
 map_same f g [] each = refl
@@ -61,52 +62,52 @@ roles_size case kind roles good =
     eqb-true (length roles) (roles_of kind) (and_parts (length roles == roles_of kind) _ (and_parts _ (are_distinct roles) (and_parts _ (is_in_order kind roles) (and_parts _ (are_together case roles) good).0).0).0).0
 
 -- where every role of every kind is done, nothing more is struck
-pub settled_by : (case : Case) (t : Trace) (kinds : List Kind) → t.counts ≡ counts_of case → AreKindsDone case (left t) kinds → IsSettled case kinds (box_of t)
+pub settled_by : (case : Case) (t : Trace) (kinds : List Kind) → t.counts ≡ counts_of case → AreAllDone case (left t) kinds → IsSettled case kinds (box_of t)
 settled_by case t kinds counts done c k here s =
     let at = s.target in
     let place : ℕ = at.0 in
     let is : insert (remove s.roles place) place c ≡ s.roles = ap (insert (remove s.roles place) place) (sym at.2) ∙ insert_remove s.roles place c at.1 in
     let size : length s.roles ≡ roles_of s.kind = roles_size case s.kind s.roles s.is_instance in
     let clear : IsClear case (left t) s.kind (insert (remove s.roles place) place c) c =
-    ((done.each s.kind s.among).each place (omega (arith, at.1, size))).each (remove s.roles place) c (length_remove s.roles place at.1 ∙ size) in
+    done.each s.kind s.among place (omega (arith, at.1, size)) (remove s.roles place) c (length_remove s.roles place at.1 ∙ size) in
     true≢false (sym (struck_out case t kinds c k counts here s) ∙ ap (λ rs. is_ruled_out case (left t) s.kind rs c k k) (sym is) ∙ clear.each k here)
 
 -- the sweeps with the target in the first so many roles
-pub record PlacesDone (case : Case) (kind : Kind) (start now : Trace) (upto : ℕ) : Type 0 where
+pub record PlacesDone (case : Case) (flags : List Bool) (kind : Kind) (start now : Trace) (upto : ℕ) : Type 0 where
   pub on : GoesOn case start now
-  pub done : NoneFixed start now → (place : ℕ) → place < upto → IsSwept case (left now) kind place []
+  pub done : (place : ℕ) → place < upto → IsSwept case (left now) flags kind place []
 
-pub places_start : (case : Case) (kind : Kind) (t : Trace) → PlacesDone case kind t t 0
-places_start case kind t = record { on = stays case t; done = λ still place none. absurd (omega arith) }
+pub places_start : (case : Case) (flags : List Bool) (kind : Kind) (t : Trace) → PlacesDone case flags kind t t 0
+places_start case flags kind t = record { on = stays case t; done = λ place none. absurd (omega arith) }
 
-pub places_more : {case : Case} {kind : Kind} {start mid now : Trace} {i : ℕ} → PlacesDone case kind start mid i → mid.counts ≡ counts_of case → GoesOn case mid now
-    → WhenNoneFixed mid now (IsSwept case (left now) kind i []) → PlacesDone case kind start now (i + 1)
-places_more {case} {kind} {start} {mid} {now} {i} so counts next swept = record {
+pub places_more : {case : Case} {flags : List Bool} {kind : Kind} {start mid now : Trace} {i : ℕ} → PlacesDone case flags kind start mid i → mid.counts ≡ counts_of case → HaveFew (left mid) flags → GoesOn case mid now
+    → IsSwept case (left now) flags kind i [] → PlacesDone case flags kind start now (i + 1)
+places_more {case} {flags} {kind} {start} {mid} {now} {i} so counts few next swept = record {
   on = goes_on so.on next;
-  done = λ still place low. elim (lt_cases place i (omega arith)) [
-    | inl earlier ↦ swept_on next counts (none_fixed_second so.on still) kind place [] (so.done (none_fixed_first next still) place earlier)
-    | inr last ↦ subst (λ (x : ℕ). IsSwept case (left now) kind x []) (sym last) (swept.holds (none_fixed_second so.on still))
+  done = λ place low. elim (lt_cases place i (omega arith)) [
+    | inl earlier ↦ swept_on next counts few kind place [] (so.done place earlier)
+    | inr last ↦ subst (λ (x : ℕ). IsSwept case (left now) flags kind x []) (sym last) swept
   ];
 }
 
 -- one kind and then the others
-pub kinds_more : {case : Case} {start mid now : Trace} (kind : Kind) (kinds : List Kind) → mid.counts ≡ counts_of case → GoesOn case start mid → GoesOn case mid now
-    → WhenNoneFixed start mid (IsKindDone case (left mid) kind) → WhenNoneFixed mid now (AreKindsDone case (left now) kinds) → WhenNoneFixed start now (AreKindsDone case (left now) (kind ∷ kinds))
-kinds_more {case} {start} {mid} {now} kind kinds counts first second one rest = record {
-  holds = λ still. record { each = λ k among. at k among still };
-}
+kinds_more : {case : Case} {flags : List Bool} {mid now : Trace} (kind : Kind) (kinds : List Kind) → mid.counts ≡ counts_of case → HaveFew (left mid) flags → GoesOn case mid now
+    → IsKindDone case (left mid) flags kind → AreKindsDone case (left now) flags kinds → AreKindsDone case (left now) flags (kind ∷ kinds)
+kinds_more {case} {flags} {mid} {now} kind kinds counts few next one rest = record { each = λ k among. at k among }
   where
-    at : (k : Kind) → Contains (kind ∷ kinds) k → NoneFixed start now → IsKindDone case (left now) k
-    at k (zero, low, is) still =
-        subst (λ (x : Kind). IsKindDone case (left now) x) is (kind_on second counts (none_fixed_second first still) kind (one.holds (none_fixed_first second still)))
-    at k (suc i, low, is) still = (rest.holds (none_fixed_second first still)).each k (i, omega arith, is)
+    at : (k : Kind) → Contains (kind ∷ kinds) k → IsKindDone case (left now) flags k
+    at k (zero, low, is) = subst (λ (x : Kind). IsKindDone case (left now) flags x) is (kind_on next counts few kind one)
+    at k (suc i, low, is) = rest.each k (i, omega arith, is)
 
 -- a round after which as many carriers as before have at most one index
-pub quiet_round : (case : Case) (kinds : List Kind) (start now : Trace) (x y : ℕ) → GoesOn case start now → start.counts ≡ counts_of case → WhenNoneFixed start now (AreKindsDone case (left now) kinds)
-    → x ≡ fixed_of now → y ≡ fixed_of start → x ≡ y → IsLiving case (box_of now) → IsQuiet case kinds false (box_of now)
-quiet_round case kinds start now x y on counts done is was same_count living = record {
+pub quiet_round : (case : Case) (kinds : List Kind) (single : List Bool) (start now : Trace) (x y : ℕ) → GoesOn case start now → start.counts ≡ counts_of case → AreSingles case (left start) single
+    → AreKindsDone case (left now) single kinds → x ≡ fixed_of now → y ≡ fixed_of start → x ≡ y → AreAllDone case (left now) kinds
+quiet_round case kinds single start now x y on counts singles done is was same_count = all_done on counts (same_fixed on (sym is ∙ same_count ∙ was)) singles kinds done
+
+pub quiet_by : (case : Case) (kinds : List Kind) (now : Trace) → now.counts ≡ counts_of case → AreAllDone case (left now) kinds → IsLiving case (box_of now) → IsQuiet case kinds false (box_of now)
+quiet_by case kinds now counts done living = record {
   living = living;
-  settled = settled_by case now kinds (on.counts ∙ counts) (done.holds (same_fixed on (sym is ∙ same_count ∙ was)));
+  settled = settled_by case now kinds counts done;
   allowed = λ asked. absurd (true≢false (sym asked));
 }
 
@@ -120,12 +121,22 @@ fewer_open case start now x y on is was other =
     omega (arith, more_fixed on, is, was, other, size, count_bound (has_at_most_one now) (length now.counts))
 
 -- the same with the answer of the second call
-pub kinds_after : {A E : Type 0} {case : Case} {start mid now : Trace} (all : List Kind) (kind : Kind) (kinds : List Kind) (r : Result A E) → kind ∷ kinds ≡ all
-    → mid.counts ≡ counts_of case → GoesOn case start mid → GoesOn case mid now
-    → WhenNoneFixed start mid (IsKindDone case (left mid) kind) → OnOk r (WhenNoneFixed mid now (AreKindsDone case (left now) kinds)) → OnOk r (WhenNoneFixed start now (AreKindsDone case (left now) all))
-kinds_after {case = case} {start = start} {now = now} all kind kinds (Ok x) is counts first second one rest =
-    subst (λ (ks : List Kind). WhenNoneFixed start now (AreKindsDone case (left now) ks)) is (kinds_more kind kinds counts first second one rest)
-kinds_after all kind kinds (Err x) is counts first second one rest = rest
+pub kinds_after : {A E : Type 0} {case : Case} {flags : List Bool} {mid now : Trace} (all : List Kind) (kind : Kind) (kinds : List Kind) (r : Result A E) → kind ∷ kinds ≡ all
+    → mid.counts ≡ counts_of case → HaveFew (left mid) flags → GoesOn case mid now
+    → IsKindDone case (left mid) flags kind → OnOk r (AreKindsDone case (left now) flags kinds) → OnOk r (AreKindsDone case (left now) flags all)
+kinds_after {case = case} {flags = flags} {now = now} all kind kinds (Ok x) is counts few next one rest =
+    subst (λ (ks : List Kind). AreKindsDone case (left now) flags ks) is (kinds_more kind kinds counts few next one rest)
+kinds_after all kind kinds (Err x) is counts few next one rest = rest
+
+-- the first kind and the others are done where all are
+pub first_done : {case : Case} {has : Box} {flags : List Bool} (all : List Kind) (kind : Kind) (kinds : List Kind) → kind ∷ kinds ≡ all → AreKindsDone case has flags all → IsKindDone case has flags kind
+first_done {case} {has} {flags} all kind kinds is done = (subst (λ (ks : List Kind). AreKindsDone case has flags ks) (sym is) done).each kind (zero, omega arith, refl)
+
+pub others_done : {case : Case} {has : Box} {flags : List Bool} (all : List Kind) (kind : Kind) (kinds : List Kind) → kind ∷ kinds ≡ all → AreKindsDone case has flags all → AreKindsDone case has flags kinds
+others_done {case} {has} {flags} all kind kinds is done = record { each = λ k among. (subst (λ (ks : List Kind). AreKindsDone case has flags ks) (sym is) done).each k (later k among) }
+  where
+    later : (k : Kind) → Contains kinds k → Contains (kind ∷ kinds) k
+    later k (i, low, e) = (suc i, omega arith, e)
 
 pub first_and_rest : (xs : List Kind) (d : Kind) → 1 ≤ length xs → get_or xs 0 d ∷ take (length xs - 1) (drop 1 xs) ≡ xs
 first_and_rest [] d some = absurd (omega arith)

@@ -62,7 +62,7 @@ pub clear_other : (case : Case) (t : Trace) (kind : Kind) (roles : List ℕ) (ta
 clear_other case t kind roles target counts known bad =
     clear_unbroken case (left t) kind roles target (λ k here. sized_left case t counts target k here) (λ k here good sole broken. true≢false (sym good ∙ bad))
 
-only_same : (case : Case) (old new : Box) (o : ℕ) → new o ≡ old o → only_index case new o ≡ only_index case old o
+pub only_same : (case : Case) (old new : Box) (o : ℕ) → new o ≡ old o → only_index case new o ≡ only_index case old o
 only_same case old new o e = ap (λ (row : ℕ → Bool). only_index case (λ c. row) o) e
 
 sole_same : (case : Case) (old new : Box) (o : ℕ) → new o ≡ old o → sole_freq case new o ≡ sole_freq case old o

@@ -1,10 +1,10 @@
 -- What a sweep keeps as it goes on.
-use Rattle.std.proofs.Common.{◌≡◌, ◌∙◌, ℕ, ◌+◌, ◌<◌, ◌≤◌, ◌==◌, true, false, ◌||◌, List, [], ◌∷◌, ◌++◌, length, get_or, refl, sym, ap, subst, inl, inr, arith, length-append, append_assoc}
+use Rattle.std.proofs.Common.{◌≡◌, ◌∙◌, ℕ, suc, ◌+◌, ◌-◌, ◌<◌, ◌≤◌, ◌==◌, Bool, true, false, List, [], ◌∷◌, ◌++◌, length, get_or, refl, sym, ap, subst, inl, inr, arith, length-append, append_assoc}
 use Rattle.std.specs.Prelude.{insert, is_some, nat_lt, max, pos, ℤ, ◌≤ℤ◌, ◌↔◌}
 use Rattle.std.specs.List.{list_all}
-use Rattle.std.proofs.lemmas.Bool.{cases_lt, and_parts, and_left, and_right, true≢false, ltb-true}
-use Rattle.std.proofs.lemmas.List.{append-nil, get_or_past}
+use Rattle.std.proofs.lemmas.Bool.{cases_Bool, cases_lt, and_parts, and_from, and_left, true≢false, ltb-true}
 use Rattle.std.proofs.lemmas.Bool.Decides.{nat_tests}
+use Rattle.std.proofs.lemmas.List.{append-nil, get_or_past}
 use Rattle.std.proofs.lemmas.List.Folds.{list_all-append}
 use Rattle.rf_terms.specs.declared.kind.Kind.{Kind}
 use Rattle.rf_terms.specs.declared.kind.Kind.TheVariants.{Spacing, T3Two, T3Three, T5Two, T5ThreeA, T5ThreeB}
@@ -18,28 +18,42 @@ use Rattle.rf_log.specs.Box.{Box, only_index}
 use Rattle.rf_log.proofs.Instances.{known_roles}
 use Rattle.rf_trail.specs.Trace.{Trace}
 use Rattle.rf_domain.proofs.Counting.{lt_cases}
-use Rattle.rf_props.specs.Sweeps.{left, AreFixed, IsClear, IsSwept, IsKindDone, IsReach, HasNoneWithin, NoneFixed, KeepsRows, HasMany, HaveMany, WhenNoneFixed}
-use Rattle.rf_props.proofs.InsertLemmas.{all_in_insert, distinct_others, not_distinct}
+use Rattle.rf_props.specs.Flags.{is_flagged, HaveFew, AreFlagged}
+use Rattle.rf_props.specs.Sweeps.{left, AreFixed, IsClear, IsSwept, IsKindDone, IsReach, IsReachOf, BreaksWithin, HasNoneOf, HasNoneWithin, KeepsRows, HaveMany}
+use Rattle.rf_props.proofs.InsertLemmas.{all_in_insert, among_others, distinct_others, get_insert, not_distinct}
 use Rattle.rf_props.proofs.InstanceLemmas.{clear_unbroken}
-use Rattle.rf_props.proofs.StrikeLemmas.{sized_left, distinct_of, apart_of, fixed_kept, clear_by}
-use Rattle.rf_props.proofs.KeptLemmas.{GoesOn, stays, goes_on, none_fixed_first, none_fixed_second, clear_on, swept_on}
+use Rattle.rf_props.proofs.StrikeLemmas.{sized_left, distinct_of, only_same, fixed_kept, clear_by}
+use Rattle.rf_props.proofs.KeptLemmas.{GoesOn, stays, goes_on, left_earlier, clear_less, swept_on, many_clear, among_all}
 
 -- the strikes at the first so many targets
 pub record Striking (case : Case) (kind : Kind) (place : ℕ) (others freqs : List ℕ) (start now : Trace) (upto : ℕ) : Type 0 where
   pub on : GoesOn case start now
   pub fixed : AreFixed case (left now) others freqs
-  pub clear : NoneFixed start now → (c : ℕ) → c < upto → IsClear case (left now) kind (insert others place c) c
+  pub clear : (c : ℕ) → c < upto → IsClear case (left now) kind (insert others place c) c
+
+-- a target that is clear stays clear where the others keep their rows
+clear_kept : {case : Case} {mid now : Trace} → GoesOn case mid now → mid.counts ≡ counts_of case → (kind : Kind) (place : ℕ) (others : List ℕ) (c : ℕ) → KeepsRows others mid now
+    → IsClear case (left mid) kind (insert others place c) c → IsClear case (left now) kind (insert others place c) c
+clear_kept {case} {mid} {now} next counts kind place others c rows clear =
+    clear_less case (left mid) (left now) (sized_left case now (next.counts ∙ counts)) (left_earlier next) kind (insert others place c) c
+    (λ o among other some. sym (only_same case (left mid) (left now) o (rows.each o (among_others others place c o among other)))) clear
 
 pub striking_more : {case : Case} {kind : Kind} {place : ℕ} {others freqs : List ℕ} {start mid now : Trace} {i : ℕ} → Striking case kind place others freqs start mid i
     → mid.counts ≡ counts_of case → GoesOn case mid now → KeepsRows others mid now → IsClear case (left now) kind (insert others place i) i → Striking case kind place others freqs start now (i + 1)
 striking_more {case} {kind} {place} {others} {freqs} {start} {mid} {now} {i} so counts next rows clear = record {
   on = goes_on so.on next;
   fixed = fixed_kept case (left mid) (left now) others freqs rows.each so.fixed;
-  clear = λ still c low. elim (lt_cases c i (omega arith)) [
-    | inl earlier ↦ clear_on next counts (none_fixed_second so.on still) kind (insert others place c) c (so.clear (none_fixed_first next still) c earlier)
+  clear = λ c low. elim (lt_cases c i (omega arith)) [
+    | inl earlier ↦ clear_kept next counts kind place others c rows (so.clear c earlier)
     | inr last ↦ subst (λ (x : ℕ). IsClear case (left now) kind (insert others place x) x) (sym last) clear
   ];
 }
+
+-- a target with nothing left there is passed over
+pub striking_past : {case : Case} {kind : Kind} {place : ℕ} {others freqs : List ℕ} {start now : Trace} {i : ℕ} → Striking case kind place others freqs start now i
+    → now.counts ≡ counts_of case → IsClear case (left now) kind (insert others place i) i → Striking case kind place others freqs start now (i + 1)
+striking_past {case} {kind} {place} {others} {freqs} {start} {now} {i} so counts clear =
+    striking_more so counts (stays case now) (record { each = λ o among. refl }) clear
 
 -- a carrier that the case lacks has nothing left
 clear_beyond : (case : Case) (t : Trace) (kind : Kind) (roles : List ℕ) (c : ℕ) → t.counts ≡ counts_of case → length case.carriers ≤ c → IsClear case (left t) kind roles c
@@ -50,24 +64,30 @@ clear_beyond case t kind roles c counts beyond =
     absurd (omega (arith, sized_left case t counts c k here, none)))
 
 -- where no role is open
-swept_whole : (case : Case) (has : Box) (kind : Kind) (place : ℕ) (others : List ℕ) → length others + 1 ≡ roles_of kind → ((c : ℕ) → IsClear case has kind (insert others place c) c) → IsSwept case has kind place others
-swept_whole case has kind place others size clear = record {
-  each = λ rest c whole. at rest c (omega (arith, length-append others rest, whole, size));
+swept_whole : (case : Case) (has : Box) (flags : List Bool) (kind : Kind) (place : ℕ) (others : List ℕ) → length others + 1 ≡ roles_of kind → ((c : ℕ) → IsClear case has kind (insert others place c) c) → IsSwept case has flags kind place others
+swept_whole case has flags kind place others size clear = record {
+  each = λ rest c whole flagged. at rest c (omega (arith, length-append others rest, whole, size));
 }
   where
     at : (rest : List ℕ) (c : ℕ) → length rest ≡ 0 → IsClear case has kind (insert (others ++ rest) place c) c
     at [] c none = subst (λ (xs : List ℕ). IsClear case has kind (insert xs place c) c) (sym (append-nil others)) (clear c)
     at (r ∷ rest) c none = absurd (omega arith)
 
-pub struck_all : (case : Case) (kind : Kind) (place : ℕ) (others freqs : List ℕ) (start now : Trace) (n : ℕ) → Striking case kind place others freqs start now n
-    → now.counts ≡ counts_of case → length case.carriers ≤ n → length others + 1 ≡ roles_of kind → NoneFixed start now → IsSwept case (left now) kind place others
-struck_all case kind place others freqs start now n so counts all size still = swept_whole case (left now) kind place others size (λ c. at c)
+pub struck_all : (case : Case) (flags : List Bool) (kind : Kind) (place : ℕ) (others freqs : List ℕ) (start now : Trace) (n : ℕ) → Striking case kind place others freqs start now n
+    → now.counts ≡ counts_of case → length case.carriers ≤ n → length others + 1 ≡ roles_of kind → IsSwept case (left now) flags kind place others
+struck_all case flags kind place others freqs start now n so counts all size = swept_whole case (left now) flags kind place others size (λ c. at c)
   where
     at : (c : ℕ) → IsClear case (left now) kind (insert others place c) c
     at c = elim (cases_lt c n) [
-      | inl low ↦ so.clear still c low
+      | inl low ↦ so.clear c low
       | inr beyond ↦ clear_beyond case now kind (insert others place c) c counts (omega arith)
     ]
+
+victim_at : (case : Case) (kind : Kind) (place asks : ℕ) (others : List ℕ) (c n : ℕ) → length others ≡ n + 1 → place < length others
+    → asks ≡ asked_by case kind (get_or others (length others - 1) 0) → asked_by case kind (get_or (insert others place c) (suc n) 0) ≡ asks
+victim_at case kind place asks others c n size low e =
+    let last : length others - 1 ≡ n = omega arith in
+    ap (asked_by case kind) (get_insert others place c n (omega arith) (omega arith) ∙ ap (λ i. get_or others i 0) (sym last)) ∙ sym e
 
 -- the margin of an instance is not beyond the reach
 pub margin_reach : (case : Case) (kind : Kind) (reach : ℕ) (roles : List ℕ) → IsReach case kind reach → margin_of case kind roles ≤ reach
@@ -78,34 +98,64 @@ margin_reach case T5Two reach roles most = most.each (get_or roles 2 0)
 margin_reach case T5ThreeA reach roles most = most.each (get_or roles 3 0)
 margin_reach case T5ThreeB reach roles most = most.each (get_or roles 3 0)
 
+pub reach_of_all : (case : Case) (kind : Kind) (place reach : ℕ) (others : List ℕ) → IsReach case kind reach → IsReachOf case kind place others reach
+reach_of_all case kind place reach others most = record { each = λ c. margin_reach case kind reach (insert others place c) most }
+
+-- the victim is one of the others, and no target changes what it asks
+victim_asks : (case : Case) (kind : Kind) (place asks : ℕ) (others : List ℕ) (c : ℕ) → (kind ≡ Spacing → ⊥) → length others + 1 ≡ roles_of kind → place < length others
+    → asks ≡ asked_by case kind (get_or others (length others - 1) 0) → margin_of case kind (insert others place c) ≡ asks
+victim_asks case Spacing place asks others c other size low e = absurd (other refl)
+victim_asks case T3Two place asks others c other size low e = victim_at case T3Two place asks others c 1 (omega arith) low e
+victim_asks case T3Three place asks others c other size low e = victim_at case T3Three place asks others c 2 (omega arith) low e
+victim_asks case T5Two place asks others c other size low e = victim_at case T5Two place asks others c 1 (omega arith) low e
+victim_asks case T5ThreeA place asks others c other size low e = victim_at case T5ThreeA place asks others c 2 (omega arith) low e
+victim_asks case T5ThreeB place asks others c other size low e = victim_at case T5ThreeB place asks others c 2 (omega arith) low e
+
+pub reach_of_victim : (case : Case) (kind : Kind) (place asks : ℕ) (others : List ℕ) → (kind ≡ Spacing → ⊥) → length others + 1 ≡ roles_of kind → place < length others
+    → asks ≡ asked_by case kind (get_or others (length others - 1) 0) → IsReachOf case kind place others asks
+reach_of_victim case kind place asks others other size low e = record { each = λ c. omega (arith, victim_asks case kind place asks others c other size low e) }
+
+-- what breaks an instance lies in the window of the reach
+pub window_within : (case : Case) (kind : Kind) (place reach : ℕ) (others freqs : List ℕ) (lo hi : ℤ) → IsReachOf case kind place others reach
+    → ((x : ℤ) → Breaks kind place freqs reach x ↔ ((lo ≤ℤ x) × (x ≤ℤ hi))) → BreaksWithin case kind place others freqs lo hi
+window_within case kind place reach others freqs lo hi most window = record {
+  each = λ c f broken. (window (pos f)).0 (omega (arith, broken, most.each c));
+}
+
+-- a target with nothing left where the instance breaks
+pub clear_within : (case : Case) (t : Trace) (kind : Kind) (place : ℕ) (others freqs : List ℕ) (lo hi : ℤ) (c : ℕ) → t.counts ≡ counts_of case → c < length case.carriers
+    → AreFixed case (left t) others freqs → BreaksWithin case kind place others freqs lo hi → HasNoneOf case (left t) c lo hi → IsClear case (left t) kind (insert others place c) c
+clear_within case t kind place others freqs lo hi c counts known fixed within none =
+    clear_by case t kind place others freqs c counts known fixed (λ k here low broken. none.none k here (within.each c (freq_of case c k) broken))
+
 -- where no index that is left breaks the kind at its reach
-unbroken_swept : (case : Case) (t : Trace) (kind : Kind) (place reach : ℕ) (others freqs : List ℕ) → t.counts ≡ counts_of case → length others + 1 ≡ roles_of kind → AreFixed case (left t) others freqs → IsReach case kind reach
-    → ((c k : ℕ) → c < length case.carriers → left t c k ≡ true → Breaks kind place freqs reach (pos (freq_of case c k)) → ⊥) → IsSwept case (left t) kind place others
-unbroken_swept case t kind place reach others freqs counts size fixed most none = swept_whole case (left t) kind place others size (λ c. at c)
+unbroken_swept : (case : Case) (t : Trace) (flags : List Bool) (kind : Kind) (place reach : ℕ) (others freqs : List ℕ) → t.counts ≡ counts_of case → length others + 1 ≡ roles_of kind → AreFixed case (left t) others freqs → IsReachOf case kind place others reach
+    → ((c k : ℕ) → c < length case.carriers → left t c k ≡ true → Breaks kind place freqs reach (pos (freq_of case c k)) → ⊥) → IsSwept case (left t) flags kind place others
+unbroken_swept case t flags kind place reach others freqs counts size fixed most none = swept_whole case (left t) flags kind place others size (λ c. at c)
   where
     at : (c : ℕ) → IsClear case (left t) kind (insert others place c) c
     at c = elim (cases_lt c (length case.carriers)) [
       | inl known ↦ clear_by case t kind place others freqs c counts known fixed
-          (λ k here low broken. none c k known here (omega (arith, broken, margin_reach case kind reach (insert others place c) most)))
+          (λ k here low broken. none c k known here (omega (arith, broken, most.each c)))
       | inr beyond ↦ clear_beyond case t kind (insert others place c) c counts beyond
     ]
 
-pub harmless_swept : (case : Case) (t : Trace) (kind : Kind) (place reach : ℕ) (others freqs : List ℕ) → t.counts ≡ counts_of case → length others + 1 ≡ roles_of kind → AreFixed case (left t) others freqs → IsReach case kind reach
-    → ((x : ℤ) → Breaks kind place freqs reach x → ⊥) → IsSwept case (left t) kind place others
-harmless_swept case t kind place reach others freqs counts size fixed most none =
-    unbroken_swept case t kind place reach others freqs counts size fixed most (λ c k known here broken. none (pos (freq_of case c k)) broken)
+pub harmless_swept : (case : Case) (t : Trace) (flags : List Bool) (kind : Kind) (place reach : ℕ) (others freqs : List ℕ) → t.counts ≡ counts_of case → length others + 1 ≡ roles_of kind → AreFixed case (left t) others freqs → IsReachOf case kind place others reach
+    → ((x : ℤ) → Breaks kind place freqs reach x → ⊥) → IsSwept case (left t) flags kind place others
+harmless_swept case t flags kind place reach others freqs counts size fixed most none =
+    unbroken_swept case t flags kind place reach others freqs counts size fixed most (λ c k known here broken. none (pos (freq_of case c k)) broken)
 
-pub far_swept : (case : Case) (t : Trace) (kind : Kind) (place reach : ℕ) (others freqs : List ℕ) (lo hi : ℤ) → t.counts ≡ counts_of case → length others + 1 ≡ roles_of kind → AreFixed case (left t) others freqs → IsReach case kind reach
-    → ((x : ℤ) → Breaks kind place freqs reach x ↔ ((lo ≤ℤ x) × (x ≤ℤ hi))) → HasNoneWithin case (left t) lo hi → IsSwept case (left t) kind place others
-far_swept case t kind place reach others freqs lo hi counts size fixed most window none =
-    unbroken_swept case t kind place reach others freqs counts size fixed most
+pub far_swept : (case : Case) (t : Trace) (flags : List Bool) (kind : Kind) (place reach : ℕ) (others freqs : List ℕ) (lo hi : ℤ) → t.counts ≡ counts_of case → length others + 1 ≡ roles_of kind → AreFixed case (left t) others freqs → IsReachOf case kind place others reach
+    → ((x : ℤ) → Breaks kind place freqs reach x ↔ ((lo ≤ℤ x) × (x ≤ℤ hi))) → HasNoneWithin case (left t) lo hi → IsSwept case (left t) flags kind place others
+far_swept case t flags kind place reach others freqs lo hi counts size fixed most window none =
+    unbroken_swept case t flags kind place reach others freqs counts size fixed most
     (λ c k known here broken. (none.each c known).none k here ((window (pos (freq_of case c k))).0 broken))
 
 -- a kind of which no carrier asks anything is never broken
-pub unasked_done : (case : Case) (t : Trace) (kind : Kind) → t.counts ≡ counts_of case → IsReach case kind 0 → IsKindDone case (left t) kind
-unasked_done case t kind counts most = record {
+pub unasked_done : (case : Case) (t : Trace) (flags : List Bool) (kind : Kind) → t.counts ≡ counts_of case → IsReach case kind 0 → IsKindDone case (left t) flags kind
+unasked_done case t flags kind counts most = record {
   each = λ place low. record {
-    each = λ rest c whole. clear_unbroken case (left t) kind (insert ([] ++ rest) place c) c (λ k here. sized_left case t counts c k here)
+    each = λ rest c whole flagged. clear_unbroken case (left t) kind (insert ([] ++ rest) place c) c (λ k here. sized_left case t counts c k here)
         (λ k here good sole broken. absurd (omega (arith, ltb-true _ _ broken, margin_reach case kind 0 (insert ([] ++ rest) place c) most)));
   };
 }
@@ -139,53 +189,88 @@ reach_all case kind n reach all so = record {
   ];
 }
 
--- a carrier with many indices is in no struck instance
-many_among : (case : Case) (has : Box) (xs : List ℕ) (c : ℕ) → is_among xs c ≡ false → list_all (λ o. (o == c) || is_some (only_index case has o)) xs ≡ true
-    → list_all (λ o. is_some (only_index case has o)) xs ≡ true
-many_among case has [] c apart all = refl
-many_among case has (x ∷ xs) c apart all =
-    let parts = and_parts ((x == c) || is_some (only_index case has x)) _ all in
-    let other : (x == c) ≡ false = grind (arith, nat_tests) in
-    let rest : is_among xs c ≡ false = grind (arith, nat_tests) in
-    let here : is_some (only_index case has x) ≡ true = rw other at parts.0 in
-    rw here (many_among case has xs c rest parts.1)
-
-pub many_swept : (case : Case) (t : Trace) (kind : Kind) (place : ℕ) (others : List ℕ) → t.counts ≡ counts_of case → HaveMany case (left t) others → IsSwept case (left t) kind place others
-many_swept case t kind place others counts many = record {
-  each = λ rest c whole. clear_unbroken case (left t) kind (insert (others ++ rest) place c) c (λ k here. sized_left case t counts c k here)
-      (λ k here good sole broken.
-      let apart = apart_of case kind (others ++ rest) place c good in
-      let all = all_in_insert (λ o. (o == c) || is_some (only_index case (left t) o)) (others ++ rest) place c sole in
-      let some = many_among case (left t) (others ++ rest) c apart all.1 in
-      let parts = and_parts (list_all (λ o. is_some (only_index case (left t) o)) others) _ (sym (list_all-append (λ o. is_some (only_index case (left t) o)) others rest) ∙ some) in
-      true≢false (sym parts.0 ∙ many.many));
+-- nothing breaks an instance of which one of the first has not exactly one index
+pub many_swept : (case : Case) (t : Trace) (flags : List Bool) (kind : Kind) (place : ℕ) (first : List ℕ) → t.counts ≡ counts_of case → HaveMany case (left t) first → IsSwept case (left t) flags kind place first
+many_swept case t flags kind place first counts many = record {
+  each = λ rest c whole flagged.
+      many_clear case (left t) kind place (first ++ rest) c (sized_left case t counts)
+      (list_all-append (λ o. is_some (only_index case (left t) o)) first rest ∙ and_left (list_all (λ o. is_some (only_index case (left t) o)) first) _ many.many);
 }
 
 -- the sweeps over the first so many carriers in the next role
-pub record Sweeping (case : Case) (kind : Kind) (place : ℕ) (first : List ℕ) (start now : Trace) (upto : ℕ) : Type 0 where
+pub record Sweeping (case : Case) (flags : List Bool) (kind : Kind) (place : ℕ) (first : List ℕ) (start now : Trace) (upto : ℕ) : Type 0 where
   pub on : GoesOn case start now
-  pub swept : NoneFixed start now → (c : ℕ) → c < upto → IsSwept case (left now) kind place (first ++ c ∷ [])
+  pub swept : (c : ℕ) → c < upto → IsSwept case (left now) flags kind place (first ++ c ∷ [])
 
-pub sweeping_more : {case : Case} {kind : Kind} {place : ℕ} {first : List ℕ} {start mid now : Trace} {i : ℕ} → Sweeping case kind place first start mid i
-    → mid.counts ≡ counts_of case → GoesOn case mid now → WhenNoneFixed mid now (IsSwept case (left now) kind place (first ++ i ∷ [])) → Sweeping case kind place first start now (i + 1)
-sweeping_more {case} {kind} {place} {first} {start} {mid} {now} {i} so counts next swept = record {
+pub sweeping_start : (case : Case) (flags : List Bool) (kind : Kind) (place : ℕ) (first : List ℕ) (t : Trace) → Sweeping case flags kind place first t t 0
+sweeping_start case flags kind place first t = record { on = stays case t; swept = λ c none. absurd (omega arith) }
+
+pub sweeping_more : {case : Case} {flags : List Bool} {kind : Kind} {place : ℕ} {first : List ℕ} {start mid now : Trace} {i : ℕ} → Sweeping case flags kind place first start mid i
+    → mid.counts ≡ counts_of case → HaveFew (left mid) flags → GoesOn case mid now → IsSwept case (left now) flags kind place (first ++ i ∷ []) → Sweeping case flags kind place first start now (i + 1)
+sweeping_more {case} {flags} {kind} {place} {first} {start} {mid} {now} {i} so counts few next swept = record {
   on = goes_on so.on next;
-  swept = λ still c low. elim (lt_cases c i (omega arith)) [
-    | inl earlier ↦ swept_on next counts (none_fixed_second so.on still) kind place (first ++ c ∷ []) (so.swept (none_fixed_first next still) c earlier)
-    | inr last ↦ subst (λ (x : ℕ). IsSwept case (left now) kind place (first ++ x ∷ [])) (sym last) (swept.holds (none_fixed_second so.on still))
+  swept = λ c low. elim (lt_cases c i (omega arith)) [
+    | inl earlier ↦ swept_on next counts few kind place (first ++ c ∷ []) (so.swept c earlier)
+    | inr last ↦ subst (λ (x : ℕ). IsSwept case (left now) flags kind place (first ++ x ∷ [])) (sym last) swept
   ];
 }
 
-pub swept_all : (case : Case) (kind : Kind) (place : ℕ) (first : List ℕ) (start now : Trace) (n : ℕ) → Sweeping case kind place first start now n
-    → now.counts ≡ counts_of case → length case.carriers ≤ n → (length first + 1 ≡ roles_of kind → ⊥) → NoneFixed start now → IsSwept case (left now) kind place first
-swept_all case kind place first start now n so counts all open_roles still = record { each = at }
+-- a carrier that is passed over
+pub sweeping_past : {case : Case} {flags : List Bool} {kind : Kind} {place : ℕ} {first : List ℕ} {start now : Trace} {i : ℕ} → Sweeping case flags kind place first start now i
+    → now.counts ≡ counts_of case → HaveFew (left now) flags → IsSwept case (left now) flags kind place (first ++ i ∷ []) → Sweeping case flags kind place first start now (i + 1)
+sweeping_past {case} {now = now} so counts few swept = sweeping_more so counts few (stays case now) swept
+
+among_last : (first rest : List ℕ) (c : ℕ) → is_among ((first ++ c ∷ []) ++ rest) c ≡ true
+among_last [] rest c = grind (arith, nat_tests)
+among_last (x ∷ xs) rest c = elim (cases_Bool (x == c)) [ inl here ↦ rw here | inr other ↦ rw other (among_last xs rest c) ]
+
+-- since it isn't flagged
+pub sweeping_unflagged : {case : Case} {flags : List Bool} {kind : Kind} {place : ℕ} {first : List ℕ} {start now : Trace} {i : ℕ} → Sweeping case flags kind place first start now i
+    → now.counts ≡ counts_of case → HaveFew (left now) flags → is_flagged flags i ≡ false → Sweeping case flags kind place first start now (i + 1)
+sweeping_unflagged {case} {flags} {kind} {place} {first} {start} {now} {i} so counts few off = sweeping_past so counts few (record { each = λ rest c whole flagged. at rest c flagged })
   where
-    at : (rest : List ℕ) (c : ℕ) → length (first ++ rest) + 1 ≡ roles_of kind → IsClear case (left now) kind (insert (first ++ rest) place c) c
-    at [] c whole = absurd (open_roles (ap (λ xs. length xs + 1) (sym (append-nil first)) ∙ whole))
-    at (r ∷ rest) c whole =
+    at : (rest : List ℕ) (c : ℕ) → AreFlagged case (left now) flags ((first ++ i ∷ []) ++ rest) → IsClear case (left now) kind (insert ((first ++ i ∷ []) ++ rest) place c) c
+    at rest c flagged = elim (cases_Bool (list_all (λ o. is_some (only_index case (left now) o)) ((first ++ i ∷ []) ++ rest))) [
+      | inr many ↦ many_clear case (left now) kind place ((first ++ i ∷ []) ++ rest) c (sized_left case now counts) many
+      | inl all ↦
+          let among = among_last first rest i in
+          absurd (true≢false (sym (flagged.each i among (among_all (λ x. is_some (only_index case (left now) x)) ((first ++ i ∷ []) ++ rest) i all among)) ∙ off))
+    ]
+
+-- since it has a role already
+pub sweeping_twice : {case : Case} {flags : List Bool} {kind : Kind} {place : ℕ} {first : List ℕ} {start now : Trace} {i : ℕ} → Sweeping case flags kind place first start now i
+    → now.counts ≡ counts_of case → HaveFew (left now) flags → is_among first i ≡ true → Sweeping case flags kind place first start now (i + 1)
+sweeping_twice {case} {flags} {kind} {place} {first} {start} {now} {i} so counts few among = sweeping_past so counts few (record { each = λ rest c whole flagged. twice rest c })
+  where
+    twice : (rest : List ℕ) (c : ℕ) → IsClear case (left now) kind (insert ((first ++ i ∷ []) ++ rest) place c) c
+    twice rest c = clear_unbroken case (left now) kind (insert ((first ++ i ∷ []) ++ rest) place c) c (λ k here. sized_left case now counts c k here)
+        (λ k here good sole broken. not_distinct first rest i among (distinct_others ((first ++ i ∷ []) ++ rest) place c (distinct_of case kind (insert ((first ++ i ∷ []) ++ rest) place c) good)))
+
+-- since it is the last that is open, and known as all before it are
+pub sweeping_known : {case : Case} {flags known : List Bool} {kind : Kind} {place : ℕ} {first : List ℕ} {start now : Trace} {i : ℕ} → Sweeping case flags kind place first start now i
+    → now.counts ≡ counts_of case → HaveFew (left now) flags → IsSwept case (left now) known kind place [] → length first + 2 ≡ roles_of kind
+    → list_all (is_flagged known) first ≡ true → is_flagged known i ≡ true → Sweeping case flags kind place first start now (i + 1)
+sweeping_known {case} {flags} {known} {kind} {place} {first} {start} {now} {i} so counts few done last all one = sweeping_past so counts few (record { each = λ rest c whole flagged. at rest c whole })
+  where
+    every : (rest : List ℕ) → length ((first ++ i ∷ []) ++ rest) + 1 ≡ roles_of kind → list_all (is_flagged known) ((first ++ i ∷ []) ++ rest) ≡ true
+    every [] whole = ap (list_all (is_flagged known)) (append-nil (first ++ i ∷ [])) ∙ list_all-append (is_flagged known) first (i ∷ []) ∙ and_from _ _ all (and_from (is_flagged known i) true one refl)
+    every (r ∷ rest) whole = absurd (omega (arith, length-append (first ++ i ∷ []) (r ∷ rest), length-append first (i ∷ []), whole, last))
+
+    at : (rest : List ℕ) (c : ℕ) → length ((first ++ i ∷ []) ++ rest) + 1 ≡ roles_of kind → IsClear case (left now) kind (insert ((first ++ i ∷ []) ++ rest) place c) c
+    at rest c whole = done.each ((first ++ i ∷ []) ++ rest) c whole (record { each = λ o among some. among_all (is_flagged known) ((first ++ i ∷ []) ++ rest) o (every rest whole) among })
+
+pub swept_all : (case : Case) (flags : List Bool) (kind : Kind) (place : ℕ) (first : List ℕ) (start now : Trace) (n : ℕ) → Sweeping case flags kind place first start now n
+    → now.counts ≡ counts_of case → length case.carriers ≤ n → (length first + 1 ≡ roles_of kind → ⊥) → IsSwept case (left now) flags kind place first
+swept_all case flags kind place first start now n so counts all open_roles = record { each = at }
+  where
+    at : (rest : List ℕ) (c : ℕ) → length (first ++ rest) + 1 ≡ roles_of kind → AreFlagged case (left now) flags (first ++ rest) → IsClear case (left now) kind (insert (first ++ rest) place c) c
+    at [] c whole flagged = absurd (open_roles (ap (λ xs. length xs + 1) (sym (append-nil first)) ∙ whole))
+    at (r ∷ rest) c whole flagged =
         let is : (first ++ r ∷ []) ++ rest ≡ first ++ r ∷ rest = append_assoc first (r ∷ []) rest in
         elim (cases_lt r n) [
-          | inl low ↦ subst (λ (xs : List ℕ). IsClear case (left now) kind (insert xs place c) c) is ((so.swept still r low).each rest c (ap (λ xs. length xs + 1) is ∙ whole))
+          | inl low ↦
+              subst (λ (xs : List ℕ). IsClear case (left now) kind (insert xs place c) c) is
+              ((so.swept r low).each rest c (ap (λ xs. length xs + 1) is ∙ whole) (subst (AreFlagged case (left now) flags) (sym is) flagged))
           | inr beyond ↦ clear_unbroken case (left now) kind (insert (first ++ r ∷ rest) place c) c (λ k here. sized_left case now counts c k here)
               (λ k here good sole broken.
               let known = all_in_insert (λ x. nat_lt x (length case.carriers)) (first ++ r ∷ rest) place c (known_roles case kind (insert (first ++ r ∷ rest) place c) good) in
@@ -194,30 +279,5 @@ swept_all case kind place first start now n so counts all open_roles still = rec
               absurd (omega (arith, ltb-true r (length case.carriers) here.0)))
         ]
 
-pub many_last : (case : Case) (has : Box) (first : List ℕ) (c : ℕ) → HasMany case has c → HaveMany case has (first ++ c ∷ [])
-many_last case has first c one = record {
-  many = list_all-append (λ o. is_some (only_index case has o)) first (c ∷ [])
-      ∙ and_right (list_all (λ o. is_some (only_index case has o)) first) _ (and_left (is_some (only_index case has c)) true one.many);
-}
-
-pub sweeping_start : (case : Case) (kind : Kind) (place : ℕ) (first : List ℕ) (t : Trace) → Sweeping case kind place first t t 0
-sweeping_start case kind place first t = record { on = stays case t; swept = λ still c none. absurd (omega arith) }
-
 pub striking_start : (case : Case) (kind : Kind) (place : ℕ) (others freqs : List ℕ) (t : Trace) → AreFixed case (left t) others freqs → Striking case kind place others freqs t t 0
-striking_start case kind place others freqs t fixed = record { on = stays case t; fixed = fixed; clear = λ still c none. absurd (omega arith) }
-
--- a carrier that is passed over, since it has not exactly one index
-pub sweeping_past : {case : Case} {kind : Kind} {place : ℕ} {first : List ℕ} {start now : Trace} {i : ℕ} → Sweeping case kind place first start now i
-    → now.counts ≡ counts_of case → HasMany case (left now) i → Sweeping case kind place first start now (i + 1)
-sweeping_past {case} {kind} {place} {first} {start} {now} {i} so counts many =
-    sweeping_more so counts (stays case now) (record { holds = λ still. many_swept case now kind place (first ++ i ∷ []) counts (many_last case (left now) first i many) })
-
--- a carrier that is passed over, since it has a role already
-pub sweeping_twice : {case : Case} {kind : Kind} {place : ℕ} {first : List ℕ} {start now : Trace} {i : ℕ} → Sweeping case kind place first start now i
-    → now.counts ≡ counts_of case → is_among first i ≡ true → Sweeping case kind place first start now (i + 1)
-sweeping_twice {case} {kind} {place} {first} {start} {now} {i} so counts among =
-    sweeping_more so counts (stays case now) (record { holds = λ still. record { each = λ rest c whole. twice rest c } })
-  where
-    twice : (rest : List ℕ) (c : ℕ) → IsClear case (left now) kind (insert ((first ++ i ∷ []) ++ rest) place c) c
-    twice rest c = clear_unbroken case (left now) kind (insert ((first ++ i ∷ []) ++ rest) place c) c (λ k here. sized_left case now counts c k here)
-        (λ k here good sole broken. not_distinct first rest i among (distinct_others ((first ++ i ∷ []) ++ rest) place c (distinct_of case kind (insert ((first ++ i ∷ []) ++ rest) place c) good)))
+striking_start case kind place others freqs t fixed = record { on = stays case t; fixed = fixed; clear = λ c none. absurd (omega arith) }

@@ -1,4 +1,6 @@
+pub mod Flags
 pub mod Sweeps
 pub mod Ranges
 pub mod Bans
 pub mod Live
+pub mod Rests

@@ -12,6 +12,7 @@ use Rattle.rf_log.specs.Hints.{is_ruled_out}
 use Rattle.rf_domain.specs.Indices.{count_below}
 use Rattle.rf_domain.specs.Sets.{size_of}
 use Rattle.rf_trail.specs.Trace.{Trace, has_of}
+use Rattle.rf_props.specs.Flags.{AreFlagged, HaveFew}
 use Rattle.rf_props.specs.Ranges.{IsIn}
 
 -- the indices that are left, as a test
@@ -31,16 +32,27 @@ pub record AreFixed (case : Case) (has : Box) (others freqs : List ℕ) : Type 0
 pub record IsClear (case : Case) (has : Box) (kind : Kind) (roles : List ℕ) (target : ℕ) : Type 0 where
   pub each : (k : ℕ) → has target k ≡ true → is_ruled_out case has kind roles target k k ≡ false
 
--- no carrier has an index left that breaks an instance in which it has this role beside these others and further ones
-pub record IsSwept (case : Case) (has : Box) (kind : Kind) (place : ℕ) (first : List ℕ) : Type 0 where
-  pub each : (rest : List ℕ) (c : ℕ) → length (first ++ rest) + 1 ≡ roles_of kind → IsClear case has kind (insert (first ++ rest) place c) c
+-- no carrier has an index left that breaks an instance in which it has this role beside these others and further ones, where
+-- those of them that have one index are flagged
+pub record IsSwept (case : Case) (has : Box) (flags : List Bool) (kind : Kind) (place : ℕ) (first : List ℕ) : Type 0 where
+  pub each : (rest : List ℕ) (c : ℕ) → length (first ++ rest) + 1 ≡ roles_of kind → AreFlagged case has flags (first ++ rest) → IsClear case has kind (insert (first ++ rest) place c) c
 
--- no carrier has an index left that breaks an instance of the kind, in any role
-pub record IsKindDone (case : Case) (has : Box) (kind : Kind) : Type 0 where
-  pub each : (place : ℕ) → place < roles_of kind → IsSwept case has kind place []
+-- so it is in any role of the kind
+pub record IsKindDone (case : Case) (has : Box) (flags : List Bool) (kind : Kind) : Type 0 where
+  pub each : (place : ℕ) → place < roles_of kind → IsSwept case has flags kind place []
 
-pub record AreKindsDone (case : Case) (has : Box) (kinds : List Kind) : Type 0 where
-  pub each : (kind : Kind) → Contains kinds kind → IsKindDone case has kind
+pub record AreKindsDone (case : Case) (has : Box) (flags : List Bool) (kinds : List Kind) : Type 0 where
+  pub each : (kind : Kind) → Contains kinds kind → IsKindDone case has flags kind
+
+-- no carrier has an index left that breaks an instance of these kinds, whoever has one index
+pub record AreAllDone (case : Case) (has : Box) (kinds : List Kind) : Type 0 where
+  pub each : (kind : Kind) → Contains kinds kind → (place : ℕ) → place < roles_of kind → (others : List ℕ) (c : ℕ) → length others + 1 ≡ roles_of kind → IsClear case has kind (insert others place c) c
+
+-- what a sweep starts from: the carriers that are flagged have at most one index, and those that are known are done
+pub record IsReady (case : Case) (has : Box) (single known : List Bool) (kind : Kind) (place : ℕ) : Type 0 where
+  pub few : HaveFew has single
+  pub few_known : HaveFew has known
+  pub done : IsSwept case has known kind place []
 
 -- at most one index is left to the carrier
 abbrev pub has_at_most_one : Trace → ℕ → Bool
@@ -83,13 +95,17 @@ pub record AreSingle (case : Case) (has : Box) (others freqs : List ℕ) : Type 
 pub record HaveMany (case : Case) (has : Box) (others : List ℕ) : Type 0 where
   pub many : list_all (λ c. is_some (only_index case has c)) others ≡ false
 
--- where no carrier came to its last index
-pub record WhenNoneFixed (old new : Trace) (P : Type 0) : Type 0 where
-  pub holds : NoneFixed old new → P
-
 -- no carrier asks more of the kind
 pub record IsReach (case : Case) (kind : Kind) (reach : ℕ) : Type 0 where
   pub each : (c : ℕ) → asked_by case kind c ≤ reach
+
+-- no instance with a target in this role beside these others asks more
+pub record IsReachOf (case : Case) (kind : Kind) (place : ℕ) (others : List ℕ) (reach : ℕ) : Type 0 where
+  pub each : (c : ℕ) → margin_of case kind (insert others place c) ≤ reach
+
+-- what breaks the kind with these frequencies in the other roles lies from lo to hi, whichever carrier is the target
+pub record BreaksWithin (case : Case) (kind : Kind) (place : ℕ) (others freqs : List ℕ) (lo hi : ℤ) : Type 0 where
+  pub each : (c f : ℕ) → Breaks kind place freqs (margin_of case kind (insert others place c)) (pos f) → IsIn lo hi f
 
 -- no index that is left to the carrier has a frequency from lo to hi
 pub record HasNoneOf (case : Case) (has : Box) (c : ℕ) (lo hi : ℤ) : Type 0 where

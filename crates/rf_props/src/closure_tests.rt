@@ -1,14 +1,21 @@
 //! What the engine leaves, beside a plain computation of it, on small problems that are made by chance.
+ghost use Rattle.std.specs.Prelude.{◌≡◌};
+
 use crate::{ProblemTheory, engine_of, settle, trail_of};
 use rf_base::NoMemory;
+use rf_log::Cond;
 use rf_problem::Problem;
 use rf_propagate::Outcome;
 use rf_terms::{Kind, Margin, asks, broken, kinds, order, roles};
+use rf_trail::Trail;
 use std::alloc::Global;
 use std::test::Fail;
 
 /// Four channels, and which of them are allowed or left.
 type Flags = [[bool; 4]; 4];
+
+/// What an engine answers, and what it leaves.
+type Found = (Outcome, Flags);
 
 /// Four carriers with four channels each.
 #[derive(Clone, Copy)]
@@ -194,9 +201,9 @@ fn round(small: &Small, left: &mut Flags) {
     }
 }
 
-/// What rounds leave of what is allowed. Each but the last takes out one of 16 indices.
-fn closure(small: &Small) -> Flags {
-    let mut left = small.allowed;
+/// What rounds leave of these indices. Each but the last takes out one of 16.
+fn closure(small: &Small, start: Flags) -> Flags {
+    let mut left = start;
     for _ in 0..16 {
         let before = left;
         round(small, &mut left);
@@ -225,7 +232,7 @@ fn add(alloc: Global, problem: &mut Problem, small: &Small, c: usize) -> Result<
 }
 
 /// What the engine answers, and what it leaves.
-fn settled(alloc: Global, small: &Small) -> Result<(Outcome, Flags), NoMemory> {
+fn settled(alloc: Global, small: &Small) -> Result<Found, NoMemory> {
     let mut problem = Problem::new(alloc, vec![in alloc; 15]?);
     for c in 0..4 {
         add(alloc, &mut problem, small, c)?;
@@ -233,6 +240,10 @@ fn settled(alloc: Global, small: &Small) -> Result<(Outcome, Flags), NoMemory> {
     let mut trail = trail_of(alloc, &problem)?;
     let mut engine = engine_of(ProblemTheory::new(alloc, &problem)?);
     let outcome = settle(&mut engine, &mut trail)?;
+    Ok((outcome, left_of(&trail)))
+}
+
+fn left_of(trail: &Trail) -> Flags {
     let domains = trail.domains();
     let mut left = [[false; 4]; 4];
     for c in 0..domains.carriers().min(4) {
@@ -240,11 +251,81 @@ fn settled(alloc: Global, small: &Small) -> Result<(Outcome, Flags), NoMemory> {
             left[c][k] = domains.has(c, k as u32);
         }
     }
-    Ok((outcome, left))
+    left
 }
 
 fn is_empty(row: &[bool; 4]) -> bool {
     row.iter().all(|left| !*left)
+}
+
+fn is_dead(left: &Flags) -> bool {
+    left.iter().any(|row| is_empty(row))
+}
+
+/// The first carrier with two indices or more, and its first index.
+fn choice(left: &Flags) -> Option<(u32, u32)> {
+    for c in 0..4 {
+        for k in 0..4 {
+            if left[c][k] && only(&left[c]).is_none() {
+                return Some((c as u32, k as u32));
+            }
+        }
+    }
+    None
+}
+
+/// Leaves a carrier this index alone, or takes it away.
+fn decide(trail: &mut Trail, carrier: u32, k: u32, inside: bool) -> Result<(), NoMemory>
+    ensures { trail.new.counts ≡ trail.old.counts }
+{
+    let domains = trail.domains();
+    if carrier as usize >= domains.carriers() || k >= domains.size(carrier as usize) {
+        return Ok(());
+    }
+    trail.decide(Cond {
+        carrier,
+        inside,
+        lo: k,
+        hi: k,
+    })
+}
+
+/// What one engine answers and leaves with a carrier at an index, and then, from the start again, without the index.
+fn branched(
+    alloc: Global,
+    small: &Small,
+    carrier: u32,
+    k: u32,
+) -> Result<(Found, Found), NoMemory> {
+    let mut problem = Problem::new(alloc, vec![in alloc; 15]?);
+    for c in 0..4 {
+        add(alloc, &mut problem, small, c)?;
+    }
+    let mut engine = engine_of(ProblemTheory::new(alloc, &problem)?);
+    let mut with = trail_of(alloc, &problem)?;
+    settle(&mut engine, &mut with)?;
+    decide(&mut with, carrier, k, true)?;
+    let inside = settle(&mut engine, &mut with)?;
+    let mut without = trail_of(alloc, &problem)?;
+    decide(&mut without, carrier, k, false)?;
+    let outside = settle(&mut engine, &mut without)?;
+    Ok(((inside, left_of(&with)), (outside, left_of(&without))))
+}
+
+/// These indices, with the carrier at one of them or without it.
+fn narrowed(start: &Flags, carrier: u32, k: u32, inside: bool) -> Flags {
+    let mut left = *start;
+    for i in 0..4 {
+        left[carrier as usize % 4][i] &= (i == k as usize) == inside;
+    }
+    left
+}
+
+fn agrees(plain: &Flags, found: &Found) -> bool {
+    if is_dead(plain) {
+        return found.0 != Outcome::Quiet;
+    }
+    found.0 == Outcome::Quiet && found.1 == *plain
 }
 
 #[test]
@@ -252,9 +333,9 @@ fn the_engine_leaves_what_plain_rounds_leave(rt: HostRuntime) -> Result<(), Fail
     let mut struck = 0u32;
     for seed in 0..200 {
         let small = made(seed);
-        let plain = closure(&small);
+        let plain = closure(&small, small.allowed);
         let (outcome, left) = settled(rt.alloc(), &small).expect(&rt, "memory");
-        let dead = plain.iter().any(|row| is_empty(row));
+        let dead = is_dead(&plain);
         assert_eq!(rt; dead, outcome != Outcome::Quiet);
         if dead {
             continue;
@@ -265,5 +346,31 @@ fn the_engine_leaves_what_plain_rounds_leave(rt: HostRuntime) -> Result<(), Fail
         }
     }
     assert!(rt; struck > 30);
+    Ok(())
+}
+
+#[test]
+fn an_engine_goes_on_from_less_and_begins_again_with_more(rt: HostRuntime) -> Result<(), Fail> {
+    let mut quiet = 0u32;
+    for seed in 0..200 {
+        let small = made(seed);
+        let start = closure(&small, small.allowed);
+        if is_dead(&start) {
+            continue;
+        }
+        let (carrier, k) = match choice(&start) {
+            Some(pair) => pair,
+            None => continue,
+        };
+        let (with, without) = branched(rt.alloc(), &small, carrier, k).expect(&rt, "memory");
+        let plain = closure(&small, narrowed(&start, carrier, k, true));
+        assert!(rt; agrees(&plain, &with));
+        if !is_dead(&plain) {
+            quiet = quiet.saturating_add(1);
+        }
+        let plain = closure(&small, narrowed(&start, carrier, k, false));
+        assert!(rt; agrees(&plain, &without));
+    }
+    assert!(rt; quiet > 30);
     Ok(())
 }

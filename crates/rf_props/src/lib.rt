@@ -5,12 +5,14 @@ mod bans;
 #[cfg(test)]
 mod closure_tests;
 mod engine;
+mod flags;
 mod instance;
 mod lines;
 mod live;
 mod range;
+mod rest;
 mod roles;
-mod rules;
+mod round;
 mod single;
 mod spacing;
 mod strike;

@@ -48,7 +48,7 @@ impl Lines {
     }
 
     /// Where their memory comes from.
-    pub fn alloc(&self) -> Global {
+    pub(crate) fn alloc(&self) -> Global {
         self.alloc
     }
 

@@ -1,4 +1,4 @@
-ghost use Rattle.std.specs.Prelude.{◌≡◌, ℕ, ◌<◌, ◌≤◌, true, false, length, IfOk, pos, ◌≤ℤ◌};
+ghost use Rattle.std.specs.Prelude.{◌≡◌, ℕ, ◌<◌, ◌≤◌, true, false, length, IfOk, pos, ◌≤ℤ◌, ◌<ℤ◌};
 ghost use Rattle.rf_log.specs.Case.{counts_of};
 ghost use Rattle.rf_problem.specs.Problem.{case_of};
 ghost use Rattle.rf_props.specs.Sweeps.{left};
@@ -47,14 +47,16 @@ impl Live {
         Ok(live)
     }
 
-    // No marks, in cells that are as narrow as the band of the problem lets them be.
+    // No marks, in cells that are as narrow as the band of the problem lets them be. The first cell lies below the band, so
+    // that it never has a mark: many products lie there.
     fn unmarked(alloc: Global, problem: &Problem) -> Result<Live, NoMemory> {
         let mut cells = Domains::new(alloc, &[CELLS])?;
         cells.remove_range(0, 0, CELLS - 1);
-        let (base, top) = band(problem);
+        let (least, greatest) = band(problem);
+        let shift = halvings(greatest.saturating_sub(least));
         Ok(Live {
-            base,
-            shift: halvings(top.saturating_sub(base)),
+            base: least.saturating_sub(1 << shift),
+            shift,
             cells,
         })
     }
@@ -104,12 +106,12 @@ impl Live {
         }
     }
 
-    /// Takes out marks between `lo` and `hi` kilohertz. The cells of both ends keep theirs.
+    /// Takes out the marks of the cells that lie from `lo` to `hi` kilohertz.
     pub fn unmark(&mut self, lo: i64, hi: i64)
         ensures { (f : ℕ) → f ≤ 10000000 → ¬ IsIn lo hi f → is_marked self.old f ≡ true → is_marked self.new f ≡ true }
     {
-        let first = self.cell(frequency_at(lo)) + 1;
-        let end = self.cell(frequency_at(hi));
+        let first = self.cell(frequency_below(lo)) + 1;
+        let end = self.cell(frequency_above(hi));
         if first >= end {
             return;
         }
@@ -123,6 +125,20 @@ fn frequency_at(khz: i64) -> u32
     ensures above { (f : ℕ) → f ≤ 10000000 → pos f ≤ℤ khz → f ≤ result }
 {
     khz.clamp(0, 10_000_000) as u32
+}
+
+// A frequency that is at least each one below `lo` kilohertz.
+fn frequency_below(lo: i64) -> u32
+    ensures { (f : ℕ) → f ≤ 10000000 → pos f <ℤ lo → f ≤ result }
+{
+    lo.clamp(1, 10_000_001) as u32 - 1
+}
+
+// A frequency that is at most each one above `hi` kilohertz.
+fn frequency_above(hi: i64) -> u32
+    ensures { (f : ℕ) → f ≤ 10000000 → hi <ℤ pos f → result ≤ f }
+{
+    (hi.clamp(-1, 9_999_999) + 1) as u32
 }
 
 // The least and the greatest frequency of a problem.

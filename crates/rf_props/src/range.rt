@@ -1,4 +1,4 @@
-ghost use Rattle.std.specs.Prelude.{◌≡◌, ℕ, ◌<◌, ◌≤◌, ◌↔◌, length, pos, ◌≤ℤ◌, ◌<ℤ◌, MatchOption};
+ghost use Rattle.std.specs.Prelude.{◌≡◌, true, ℕ, ◌<◌, ◌≤◌, ◌↔◌, length, pos, ◌≤ℤ◌, ◌<ℤ◌, MatchOption};
 ghost use Rattle.std.specs.List.Sorted.{IsStrictlyIncreasing};
 ghost use Rattle.rf_terms.specs.Forms.{AreFrequencies};
 ghost use Rattle.rf_problem.specs.declared.limits.TheConstants.{MAX_CHANNELS};
@@ -19,8 +19,8 @@ pub fn indices_within(freqs: &[u32], lo: i64, hi: i64) -> Option<(u32, u32)>
     Some((first as u32, end as u32 - 1))
 }
 
-// A number that is above the same frequencies as a whole number.
-fn from(lo: i64) -> u32
+/// A number that is above the same frequencies as a whole number.
+pub fn from(lo: i64) -> u32
     ensures { (f : ℕ) → f ≤ 10000000 → (f < result) ↔ (pos f <ℤ lo) }
 {
     lo.clamp(0, 10_000_001) as u32
@@ -31,6 +31,28 @@ fn above(hi: i64) -> u32
     ensures { (f : ℕ) → f ≤ 10000000 → (f < result) ↔ (pos f ≤ℤ hi) }
 {
     (hi.clamp(-1, 10_000_000) + 1) as u32
+}
+
+/// How many frequencies are below a number. `near` is tried first.
+pub fn count_below_near(freqs: &[u32], number: u32, near: usize) -> usize
+    requires rising { IsStrictlyIncreasing freqs.now }
+    ensures { AreBelow freqs.now number result }
+{
+    if is_count_below(freqs, number, near) {
+        return near;
+    }
+    count_below(freqs, number)
+}
+
+// Whether just the first `count` frequencies are below a number.
+fn is_count_below(freqs: &[u32], number: u32, count: usize) -> bool
+    requires rising { IsStrictlyIncreasing freqs.now }
+    ensures { result ≡ true → AreBelow freqs.now number count }
+{
+    if count > freqs.len() || (count > 0 && freqs[count - 1] >= number) {
+        return false;
+    }
+    count == freqs.len() || freqs[count] >= number
 }
 
 // How many frequencies are below a number.

@@ -8,10 +8,10 @@ ghost use Rattle.rf_domain.specs.Sets.{size_of};
 ghost use Rattle.rf_problem.specs.Problem.{case_of};
 ghost use Rattle.rf_propagate.specs.Laws.{Extends};
 ghost use Rattle.rf_terms.specs.Forms.{AreFrequencies};
-ghost use Rattle.rf_props.specs.Sweeps.{left, HasNoneOf, HasNoneWithin, AreFixed, IsClear, KeepsRows, IsHarmless, AreBroken};
+ghost use Rattle.rf_props.specs.Sweeps.{left, HasNoneOf, AreFixed, IsClear, KeepsRows, IsHarmless, AreBroken};
 
 use crate::instance::is_instance;
-use crate::range::indices_within;
+use crate::range::{count_below_near, from, indices_within};
 use crate::roles::{padded, with_target};
 use rf_base::NoMemory;
 use rf_log::Hint;
@@ -98,26 +98,24 @@ pub fn is_left(trail: &Trail, carrier: usize, first: u32, last: u32) -> bool
     }
 }
 
-/// Whether no index that is left to a carrier has a frequency from `lo` to `hi` kilohertz.
-pub fn has_none_within(problem: &Problem, trail: &Trail, lo: i64, hi: i64) -> bool
-    requires { trail.now.counts ≡ counts_of (case_of problem.now) }
-    ensures { result ≡ true → HasNoneWithin (case_of problem.now) (left trail.now) lo hi }
-{
-    for carrier in 0..problem.carriers() {
-        if has_some_within(problem, trail, carrier, lo, hi) {
-            return false;
-        }
-    }
-    true
-}
-
-fn has_some_within(problem: &Problem, trail: &Trail, carrier: usize, lo: i64, hi: i64) -> bool
+/// Whether an index that is left to the carrier has a frequency from `lo` to `hi` kilohertz. The search for the least such index
+/// begins near `near`, and leaves there where it ended: carriers of one profile have it at the same place.
+pub fn has_some_within(
+    problem: &Problem,
+    trail: &Trail,
+    carrier: usize,
+    lo: i64,
+    hi: i64,
+    near: &mut usize,
+) -> bool
     requires counts { trail.now.counts ≡ counts_of (case_of problem.now) }
     requires carrier { carrier < length problem.now.carriers }
     ensures { result ≡ false → HasNoneOf (case_of problem.now) (left trail.now) carrier lo hi }
 {
-    match indices_within(problem.freqs(carrier), lo, hi) {
-        Some(range) => is_left(trail, carrier, range.0, range.1),
+    let freqs = problem.freqs(carrier);
+    *near = count_below_near(freqs, from(lo), *near);
+    match trail.domains().next(carrier, *near as u32) {
+        Some(k) => i64::from(freqs[k as usize]) <= hi,
         None => false,
     }
 }

@@ -39,7 +39,7 @@ impl<'a> ProblemTheory<'a> {
     }
 
     /// Where its memory comes from.
-    pub fn alloc(&self) -> Global {
+    pub(crate) fn alloc(&self) -> Global {
         self.lines.alloc()
     }
 

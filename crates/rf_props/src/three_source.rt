@@ -1,7 +1,9 @@
-ghost use Rattle.std.specs.Prelude.{[], ◌∷◌, false};
+ghost use Rattle.std.specs.Prelude.{◌≡◌, [], ◌∷◌, None, false};
 ghost use Rattle.rf_terms.specs.declared.kind.Kind.TheVariants as kind;
+ghost use Rattle.rf_problem.specs.Problem.{case_of};
+ghost use Rattle.rf_props.specs.Rests.{Rests, rests_last};
 
-use crate::rules::settle_kinds;
+use crate::rest::Rest;
 use crate::theory::ProblemTheory;
 use rf_base::NoMemory;
 use rf_propagate::{Outcome, Propagator};
@@ -10,11 +12,16 @@ use rf_trail::Trail;
 
 /// Keeps carriers away from the products `a+b-c`, `3a-b-c` and `2a+b-2c` of three others.
 #[derive(Drop)]
-pub struct ThreeSource {}
+pub struct ThreeSource {
+    rest: Rest,
+}
 
 impl ThreeSource {
-    pub fn new() -> ThreeSource {
-        ThreeSource {}
+    /// Nothing was ever at rest.
+    pub fn new() -> ThreeSource
+        ensures { result.rest.domains ≡ None }
+    {
+        ThreeSource { rest: Rest::new() }
     }
 }
 
@@ -25,14 +32,14 @@ impl<'a> Propagator<ProblemTheory<'a>> for ThreeSource {
 
     ghost held = { λ _. [] };
 
-    ghost fits = { λ _ _. Unit {0} };
+    ghost fits = { λ p t. Rests (case_of t.problem.now) (kind.T3Three ∷ kind.T5ThreeA ∷ kind.T5ThreeB ∷ []) p.rest.domains };
 
     fn settle(
         &mut self,
         theory: &ProblemTheory<'a>,
         trail: &mut Trail,
     ) -> Result<Outcome, NoMemory> {
-        settle_kinds(
+        self.rest.settle(
             theory.alloc(),
             theory.problem(),
             &[Kind::T3Three, Kind::T5ThreeA, Kind::T5ThreeB],
@@ -40,5 +47,5 @@ impl<'a> Propagator<ProblemTheory<'a>> for ThreeSource {
         )
     }
 
-    ghost lasts = { λ _ _ _ _ _ _. tt };
+    ghost lasts = { λ p t u fit same more. rests_last fit same };
 }

@@ -1,7 +1,9 @@
-ghost use Rattle.std.specs.Prelude.{[], ◌∷◌, false};
+ghost use Rattle.std.specs.Prelude.{◌≡◌, [], ◌∷◌, None, false};
 ghost use Rattle.rf_terms.specs.declared.kind.Kind.TheVariants as kind;
+ghost use Rattle.rf_problem.specs.Problem.{case_of};
+ghost use Rattle.rf_props.specs.Rests.{Rests, rests_last};
 
-use crate::rules::settle_kinds;
+use crate::rest::Rest;
 use crate::theory::ProblemTheory;
 use rf_base::NoMemory;
 use rf_propagate::{Outcome, Propagator};
@@ -10,11 +12,16 @@ use rf_trail::Trail;
 
 /// Keeps carriers away from the products `2a-b` and `3a-2b` of two others.
 #[derive(Drop)]
-pub struct TwoSource {}
+pub struct TwoSource {
+    rest: Rest,
+}
 
 impl TwoSource {
-    pub fn new() -> TwoSource {
-        TwoSource {}
+    /// Nothing was ever at rest.
+    pub fn new() -> TwoSource
+        ensures { result.rest.domains ≡ None }
+    {
+        TwoSource { rest: Rest::new() }
     }
 }
 
@@ -25,14 +32,14 @@ impl<'a> Propagator<ProblemTheory<'a>> for TwoSource {
 
     ghost held = { λ _. [] };
 
-    ghost fits = { λ _ _. Unit {0} };
+    ghost fits = { λ p t. Rests (case_of t.problem.now) (kind.T3Two ∷ kind.T5Two ∷ []) p.rest.domains };
 
     fn settle(
         &mut self,
         theory: &ProblemTheory<'a>,
         trail: &mut Trail,
     ) -> Result<Outcome, NoMemory> {
-        settle_kinds(
+        self.rest.settle(
             theory.alloc(),
             theory.problem(),
             &[Kind::T3Two, Kind::T5Two],
@@ -40,5 +47,5 @@ impl<'a> Propagator<ProblemTheory<'a>> for TwoSource {
         )
     }
 
-    ghost lasts = { λ _ _ _ _ _ _. tt };
+    ghost lasts = { λ p t u fit same more. rests_last fit same };
 }

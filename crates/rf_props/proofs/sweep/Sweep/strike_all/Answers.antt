@@ -1,4 +1,4 @@
-use Rattle.std.proofs.Common.{FitsSigned, w64, rules}
+use Rattle.std.proofs.Common.{FitsSigned, ◌∙◌, Ok, w64, ap, rules}
 use Rattle.std.proofs.lemmas.Int.{to_z-of_z}
 use Rattle.rf_problem.specs.Problem.{case_of}
 use Rattle.rf_propagate.specs.Laws.{same}
@@ -12,19 +12,17 @@ returns-in-None-clause-sound c = λ lines. same
 
 pub returns-in-None-clause-swept : goal.returns-in-None-clause-swept
 returns-in-None-clause-swept c =
-    let s = c.args.self.now in record {
-      holds = λ still. many_swept (case_of s.problem.now) c.args.trail.now s.kind s.place c.args.others.now c.requires.counts c.in-None.ensures;
-    }
+    let s = c.args.self.now in
+    many_swept (case_of s.problem.now) c.args.trail.now s.single.now s.kind s.place c.args.others.now c.requires.counts c.in-None.ensures
 
 pub returns-in-None-window-clause-sound : goal.returns-in-None-window-clause-sound
 returns-in-None-window-clause-sound c = λ lines. same
 
 pub returns-in-None-window-clause-swept : goal.returns-in-None-window-clause-swept
 returns-in-None-window-clause-swept c =
-    let s = c.args.self.now in record {
-      holds = λ still.
-          harmless_swept (case_of s.problem.now) c.args.trail.now s.kind s.place s.reach c.args.others.now _ c.requires.counts c.requires.others c.in-Some.ensures.fixed c.requires.reach c.in-None-window.ensures;
-    }
+    let s = c.args.self.now in
+    harmless_swept (case_of s.problem.now) c.args.trail.now s.single.now s.kind s.place c.reach_of.result c.args.others.now _ c.requires.counts c.requires.others c.in-Some.ensures.fixed c.reach_of.ensures
+    c.in-None-window.ensures
 
 pub returns-then-is_far-clause-sound : goal.returns-then-is_far-clause-sound
 returns-then-is_far-clause-sound c = λ lines. same
@@ -35,18 +33,17 @@ returns-then-is_far-clause-swept c =
     let lo = c.in-Some-window.range.0 in
     let hi = c.in-Some-window.range.1 in
     let lo_fits : FitsSigned w64 lo = search rules in
-    let hi_fits : FitsSigned w64 hi = search rules in record {
-      holds = λ still.
-          far_swept (case_of s.problem.now) c.args.trail.now s.kind s.place s.reach c.args.others.now _ lo hi c.requires.counts c.requires.others c.in-Some.ensures.fixed c.requires.reach
-          c.in-Some-window.ensures.1
-          (within_at (to_z-of_z w64 lo lo_fits) (to_z-of_z w64 hi hi_fits) (far_within (case_of s.problem.now) (left c.args.trail.now) c.args.live.now _ _ c.requires.live (c.is_far.ensures c.if-is_far.true)));
-    }
+    let hi_fits : FitsSigned w64 hi = search rules in
+    far_swept (case_of s.problem.now) c.args.trail.now s.single.now s.kind s.place c.reach_of.result c.args.others.now _ lo hi c.requires.counts c.requires.others c.in-Some.ensures.fixed c.reach_of.ensures
+    c.in-Some-window.ensures.1
+    (within_at (to_z-of_z w64 lo lo_fits) (to_z-of_z w64 hi hi_fits) (far_within (case_of s.problem.now) (left c.args.trail.now) c.args.live.now _ _ c.requires.live (c.is_far.ensures c.if-is_far.true)))
 
-pub returns-then-has_none_within-clause-live : goal.returns-then-has_none_within-clause-live
-returns-then-has_none_within-clause-live c =
+pub returns-then-branch-clause-live : goal.returns-then-branch-clause-live
+returns-then-branch-clause-live c =
     let s = c.args.self.now in
-    unmarked_within (case_of s.problem.now) (left c.strike_each.new.trail) c.args.live.now c.unmark.new.self _ _
-    (marked_on (record { counts = c.strike_each.ensures.counts; sound = c.strike_each.ensures.sound }) c.requires.live) (c.has_none_within.ensures c.if-has_none_within.true) c.unmark.ensures
+    unmarked_within (case_of s.problem.now) (left c.strike_within.new.trail) c.args.live.now c.unmark.new.self _ _
+    (marked_on (record { counts = c.strike_within.ensures.counts; sound = c.strike_within.ensures.sound }) c.requires.live)
+    (c.strike_within.ensures.none (c.in_ok-strike_within.was ∙ ap Ok c.if-branch.true)) c.unmark.ensures
 
-pub returns-else-has_none_within-clause-live : goal.returns-else-has_none_within-clause-live
-returns-else-has_none_within-clause-live c = marked_on (record { counts = c.strike_each.ensures.counts; sound = c.strike_each.ensures.sound }) c.requires.live
+pub returns-else-branch-clause-live : goal.returns-else-branch-clause-live
+returns-else-branch-clause-live c = marked_on (record { counts = c.strike_within.ensures.counts; sound = c.strike_within.ensures.sound }) c.requires.live

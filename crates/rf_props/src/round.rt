@@ -1,87 +1,92 @@
-ghost use Rattle.std.specs.Prelude.{◌≡◌, ℕ, List, Ok, OnOk, false};
+ghost use Rattle.std.specs.Prelude.{◌≡◌, List, OnOk};
 ghost use Rattle.rf_log.specs.Case.{counts_of};
 ghost use Rattle.rf_log.specs.Hints.{Line};
-ghost use Rattle.rf_log.specs.Relations.{IsEmptied};
 ghost use Rattle.rf_problem.specs.Problem.{case_of};
-ghost use Rattle.rf_trail.specs.Trace.{box_of};
-ghost use Rattle.rf_propagate.specs.Laws.{Extends, IsQuiet};
-ghost use Rattle.rf_props.specs.Sweeps.{left, IsReach, WhenNoneFixed, IsKindDone, AreKindsDone};
+ghost use Rattle.rf_propagate.specs.Laws.{Extends};
+ghost use Rattle.rf_props.specs.Flags.{HaveFew};
+ghost use Rattle.rf_props.specs.Sweeps.{left, IsReach, IsKindDone, AreKindsDone};
 ghost use Rattle.rf_props.specs.Live.{AreMarked};
 
+use crate::flags::{Flags, are_within};
 use crate::live::Live;
-use crate::single::count_fixed;
 use crate::sweep::Sweep;
 use rf_base::NoMemory;
 use rf_problem::Problem;
-use rf_propagate::{Outcome, outcome_of};
 use rf_terms::{Kind, roles};
 use rf_trail::Trail;
 use std::alloc::Global;
 
-/// Removes what breaks an instance of these kinds whose other carriers have one index each, until nothing more falls. A
-/// further round is needed only where a carrier came to its last index. `NoMemory` where no memory is found; the removals made
-/// before it stand.
-pub fn settle_kinds(
+/// Removes what breaks an instance of these kinds whose other carriers are single. Those whose other carriers are all known
+/// are done already. `NoMemory` where no memory is found; the removals made before it stand.
+pub fn sweep_round(
     alloc: Global,
     problem: &Problem,
     kinds: &[Kind],
+    single: &Flags,
+    known: &Flags,
     trail: &mut Trail,
-) -> Result<Outcome, NoMemory>
-    requires { trail.old.counts ≡ counts_of (case_of problem.now) }
+) -> Result<(), NoMemory>
+    requires counts { trail.old.counts ≡ counts_of (case_of problem.now) }
+    requires few { HaveFew (left trail.old) single.now }
+    requires few_known { HaveFew (left trail.old) known.now }
+    requires done { AreKindsDone (case_of problem.now) (left trail.old) known.now kinds.now }
     ensures counts { trail.new.counts ≡ trail.old.counts }
     ensures sound { (lines : List Line) → Extends (case_of problem.now) lines trail.old.entries trail.new.entries }
-    ensures quiet { result ≡ Ok Outcome.Quiet → IsQuiet (case_of problem.now) kinds.now false (box_of trail.new) }
-    ensures wiped { (c : ℕ) → result ≡ Ok (Outcome.Wiped c) → IsEmptied (case_of problem.now) (box_of trail.new) c }
+    ensures swept { OnOk result (AreKindsDone (case_of problem.now) (left trail.new) single.now kinds.now) }
 {
-    'rounds: loop {
-        let before = count_fixed(trail);
-        let mut live = Live::of(alloc, problem, trail)?;
-        sweep_kinds(problem, kinds, trail, &mut live)?;
-        if let Outcome::Wiped(carrier) = outcome_of(trail) {
-            return Ok(Outcome::Wiped(carrier));
-        }
-        if count_fixed(trail) == before {
-            return Ok(Outcome::Quiet);
-        }
+    if are_within(single, known) {
+        return Ok(());
     }
+    let mut live = Live::of(alloc, problem, trail)?;
+    sweep_kinds(problem, kinds, single, known, trail, &mut live)
 }
 
-// One round over the kinds.
+// The kinds, one after another.
 fn sweep_kinds(
     problem: &Problem,
     kinds: &[Kind],
+    single: &Flags,
+    known: &Flags,
     trail: &mut Trail,
     live: &mut Live,
 ) -> Result<(), NoMemory>
     requires counts { trail.old.counts ≡ counts_of (case_of problem.now) }
     requires live { AreMarked (case_of problem.now) (left trail.old) live.old }
+    requires few { HaveFew (left trail.old) single.now }
+    requires few_known { HaveFew (left trail.old) known.now }
+    requires done { AreKindsDone (case_of problem.now) (left trail.old) known.now kinds.now }
     ensures counts { trail.new.counts ≡ trail.old.counts }
     ensures sound { (lines : List Line) → Extends (case_of problem.now) lines trail.old.entries trail.new.entries }
     ensures live { OnOk result (AreMarked (case_of problem.now) (left trail.new) live.new) }
-    ensures swept { OnOk result (WhenNoneFixed trail.old trail.new (AreKindsDone (case_of problem.now) (left trail.new) kinds.now)) }
+    ensures swept { OnOk result (AreKindsDone (case_of problem.now) (left trail.new) single.now kinds.now) }
 {
     match kinds {
         [] => Ok(()),
         [kind, rest @ ..] => {
-            sweep_kind(problem, *kind, trail, live)?;
-            sweep_kinds(problem, rest, trail, live)
+            sweep_kind(problem, *kind, single, known, trail, live)?;
+            sweep_kinds(problem, rest, single, known, trail, live)
         }
     }
 }
 
-// One round over the roles of a kind.
+// The roles of a kind, one after another.
 fn sweep_kind(
     problem: &Problem,
     kind: Kind,
+    single: &Flags,
+    known: &Flags,
     trail: &mut Trail,
     live: &mut Live,
 ) -> Result<(), NoMemory>
     requires counts { trail.old.counts ≡ counts_of (case_of problem.now) }
     requires live { AreMarked (case_of problem.now) (left trail.old) live.old }
+    requires few { HaveFew (left trail.old) single.now }
+    requires few_known { HaveFew (left trail.old) known.now }
+    requires done { IsKindDone (case_of problem.now) (left trail.old) known.now kind }
     ensures counts { trail.new.counts ≡ trail.old.counts }
     ensures sound { (lines : List Line) → Extends (case_of problem.now) lines trail.old.entries trail.new.entries }
     ensures live { OnOk result (AreMarked (case_of problem.now) (left trail.new) live.new) }
-    ensures swept { OnOk result (WhenNoneFixed trail.old trail.new (IsKindDone (case_of problem.now) (left trail.new) kind)) }
+    ensures swept { OnOk result (IsKindDone (case_of problem.now) (left trail.new) single.now kind) }
 {
     let reach = reach(problem, kind);
     if reach == 0 {
@@ -93,6 +98,8 @@ fn sweep_kind(
             kind,
             place,
             reach,
+            single,
+            known,
         };
         sweep.extend([0; 4], 0, trail, live)?;
     }

@@ -1,0 +1,124 @@
+-- Flags of carriers.
+use Rattle.std.proofs.Common.{◌≡◌, ◌∙◌, ℕ, zero, suc, ◌+◌, ◌<◌, ◌≤◌, Bool, true, false, List, [], ◌∷◌, length, get_or, set, replicate, refl, sym, ap, inl, inr, arith}
+use Rattle.std.specs.Prelude.{Option, Some, None, MatchOption, is_some}
+use Rattle.std.proofs.Math.ListN.{length-set}
+use Rattle.std.proofs.lemmas.Bool.{cases_eq, cases_lt, true≢false}
+use Rattle.std.proofs.lemmas.List.{get_or_past, get_or-replicate, get_or-set_same, get_or-set_other, length-replicate}
+use Rattle.rf_log.specs.Case.{Case, count_of, counts_of}
+use Rattle.rf_log.specs.Box.{Box, only_index}
+use Rattle.rf_log.proofs.Kept.{only_below-is}
+use Rattle.rf_domain.specs.Indices.{flag, IsOnly}
+use Rattle.rf_domain.specs.Sets.{has, sizes}
+use Rattle.rf_zones.specs.declared.slices.TheConstants.{MAX_CARRIERS}
+use Rattle.rf_props.specs.Flags.{is_flagged, AreSingles, HaveFew}
+use Rattle.rf_props.proofs.CountLemmas.{count_any, counts_length}
+use Rattle.rf_props.proofs.KeptLemmas.{AreSized}
+use Rattle.rf_props.proofs.SingleLemmas.{only_below-some, only_below-here}
+
+flag_below : (set : List Bool) (k : ℕ) → flag set k ≡ true → k < length set
+flag_below set k here = elim (cases_lt k (length set)) [ inl low ↦ low | inr past ↦ absurd (true≢false (sym here ∙ get_or_past set k false past)) ]
+
+size_at : (sets : List (List Bool)) (c : ℕ) → get_or (sizes sets) c 0 ≡ length (get_or sets c [])
+size_at [] c = refl
+size_at (s ∷ ss) zero = refl
+size_at (s ∷ ss) (suc c) = size_at ss c
+
+-- each index of sets that are the case's is one of its carrier's
+pub sets_sized : (case : Case) (sets : List (List Bool)) → sizes sets ≡ counts_of case → AreSized case (has sets)
+sets_sized case sets is c k here = omega (arith, flag_below (get_or sets c []) k here, size_at sets c, ap (λ ns. get_or ns c 0) is, count_any case c)
+
+-- the first so many carriers are flagged where they have one index
+pub record FlaggedUpTo (case : Case) (box : Box) (n : ℕ) (flags : List Bool) : Type 0 where
+  pub size : length flags ≡ MAX_CARRIERS
+  pub same : (c : ℕ) → c < n → is_flagged flags c ≡ is_some (only_index case box c)
+  pub later : (c : ℕ) → n ≤ c → is_flagged flags c ≡ false
+
+pub none_flagged : (n c : ℕ) → is_flagged (replicate n false) c ≡ false
+none_flagged n c = elim (cases_lt c n) [
+  | inl low ↦ get_or-replicate n c false false low
+  | inr past ↦ get_or_past (replicate n false) c false (omega (arith, length-replicate n false))
+]
+
+pub flagged_start : (case : Case) (box : Box) → FlaggedUpTo case box 0 (replicate MAX_CARRIERS false)
+flagged_start case box = record {
+  size = length-replicate MAX_CARRIERS false;
+  same = λ c none. absurd (omega arith);
+  later = λ c _. none_flagged MAX_CARRIERS c;
+}
+
+lt_or : (c n : ℕ) → c < n + 1 → (c ≡ n → ⊥) → c < n
+lt_or c n low other = omega arith
+
+flagged_set : (case : Case) (sets : List (List Bool)) (n : ℕ) (b : Bool) (flags : List Bool) → n < MAX_CARRIERS → b ≡ is_some (only_index case (has sets) n)
+    → FlaggedUpTo case (has sets) n flags → FlaggedUpTo case (has sets) (n + 1) (set flags n b)
+flagged_set case sets n b flags room is so = record {
+  size = length-set flags n b ∙ so.size;
+  same = λ c low. elim (cases_eq c n) [
+    | inl e ↦ ap (λ x. get_or (set flags n b) x false) e ∙ get_or-set_same flags n b false (omega (arith, so.size)) ∙ is ∙ sym (ap (λ x. is_some (only_index case (has sets) x)) e)
+    | inr e ↦ get_or-set_other flags n c b false e ∙ so.same c (lt_or c n low e)
+  ];
+  later = λ c past. get_or-set_other flags n c b false (λ e. absurd (omega (arith, e))) ∙ so.later c (omega arith);
+}
+
+pub flagged_more : (case : Case) (sets : List (List Bool)) (n : ℕ) (flags : List Bool) (r : Option ℕ) → sizes sets ≡ counts_of case → n < MAX_CARRIERS
+    → MatchOption r ((k : ℕ) → IsOnly (get_or sets n []) k → ⊥) (λ k. IsOnly (get_or sets n []) k) → FlaggedUpTo case (has sets) n flags → FlaggedUpTo case (has sets) (n + 1) (set flags n (is_some r))
+flagged_more case sets n flags (Some k) is room only so = flagged_set case sets n true flags room (sym (ap is_some found)) so
+  where
+    found : only_index case (has sets) n ≡ Some k
+    found = only_below-some (count_of case n) (has sets n) k (sets_sized case sets is n k only.here) only.here only.alone
+flagged_more case sets n flags None is room none so = flagged_set case sets n false flags room (sym (off (only_index case (has sets) n) refl)) so
+  where
+    off : (o : Option ℕ) → only_index case (has sets) n ≡ o → is_some (only_index case (has sets) n) ≡ false
+    off None e = ap is_some e
+    off (Some k) e =
+        let here = only_below-here (count_of case n) (has sets n) k e in
+        absurd (none k (record { here = here.1; alone = λ j on. only_below-is (count_of case n) (has sets n) k j e (sets_sized case sets is n j on) on }))
+
+pub flagged_all : (case : Case) (sets : List (List Bool)) (n : ℕ) (flags : List Bool) → sizes sets ≡ counts_of case → length case.carriers ≤ n → FlaggedUpTo case (has sets) n flags → AreSingles case (has sets) flags
+flagged_all case sets n flags is all so = record {
+  one = λ c on. elim (cases_lt c n) [
+    | inl low ↦ sym (so.same c low) ∙ on
+    | inr past ↦ absurd (true≢false (sym on ∙ so.later c past))
+  ];
+  all = λ c some. elim (cases_lt c n) [
+    | inl low ↦ so.same c low ∙ some
+    | inr past ↦ absurd (beyond c past (only_index case (has sets) c) refl some)
+  ];
+}
+  where
+    beyond : (c : ℕ) → n ≤ c → (o : Option ℕ) → only_index case (has sets) c ≡ o → is_some (only_index case (has sets) c) ≡ true → ⊥
+    beyond c past None e some = true≢false (sym some ∙ ap is_some e)
+    beyond c past (Some k) e some =
+        let here = only_below-here (count_of case c) (has sets c) k e in
+        let none : get_or (counts_of case) c 0 ≡ 0 = get_or_past (counts_of case) c 0 (omega (arith, counts_length case)) in
+        omega (arith, here.0, none, count_any case c)
+
+-- a carrier that is flagged as single has at most one index
+pub few_of_singles : (case : Case) (box : Box) (flags : List Bool) → AreSized case box → AreSingles case box flags → HaveFew box flags
+few_of_singles case box flags sized singles = record { each = λ c j k on here there. by c j k here there (only_index case box c) refl (singles.one c on) }
+  where
+    by : (c j k : ℕ) → box c j ≡ true → box c k ≡ true → (o : Option ℕ) → only_index case box c ≡ o → is_some (only_index case box c) ≡ true → j ≡ k
+    by c j k here there None e some = absurd (true≢false (sym some ∙ ap is_some e))
+    by c j k here there (Some i) e some =
+        only_below-is (count_of case c) (box c) i j e (sized c j here) here ∙ sym (only_below-is (count_of case c) (box c) i k e (sized c k there) there)
+
+-- of the first so many carriers, those that have the first flag have the second
+pub record WithinUpTo (flags others : List Bool) (n : ℕ) : Type 0 where
+  pub each : (c : ℕ) → c < n → is_flagged flags c ≡ true → is_flagged others c ≡ true
+
+pub within_start : (flags others : List Bool) → WithinUpTo flags others 0
+within_start flags others = record { each = λ c none. absurd (omega arith) }
+
+pub within_more : {flags others : List Bool} {n : ℕ} → WithinUpTo flags others n → (is_flagged flags n ≡ true → is_flagged others n ≡ true) → WithinUpTo flags others (n + 1)
+within_more {flags} {others} {n} so one = record {
+  each = λ c low on. elim (cases_eq c n) [
+    | inl e ↦ ap (is_flagged others) e ∙ one (sym (ap (is_flagged flags) e) ∙ on)
+    | inr e ↦ so.each c (lt_or c n low e) on
+  ];
+}
+
+pub within_all : {flags others : List Bool} {n : ℕ} → length flags ≤ n → WithinUpTo flags others n → (c : ℕ) → is_flagged flags c ≡ true → is_flagged others c ≡ true
+within_all {flags} {others} {n} all so c on = elim (cases_lt c n) [
+  | inl low ↦ so.each c low on
+  | inr past ↦ absurd (true≢false (sym on ∙ get_or_past flags c false (omega arith)))
+]
