@@ -1,9 +1,9 @@
 -- How the count and the lowest bit follow a change of a range.
 use Rattle.std.proofs.Common.{◌≡◌, ℕ, zero, suc, ◌+◌, ◌-◌, ◌<◌, ◌≤◌, min, List, Bool, true, false, not, ◌&&◌, ◌||◌, length, refl, sym, ◌∙◌, ap, arith, inl, inr}
 use Rattle.std.specs.Prelude.{if◌then◌else◌, nat_lt}
-use Rattle.std.proofs.lemmas.Bool.{cases_lt}
+use Rattle.std.proofs.lemmas.Bool.{cases_Bool, cases_lt}
 use Rattle.std.proofs.lemmas.Bool.Decides.{nat_tests}
-use Rattle.rf_domain.specs.Indices.{flag, has_bit, between, flags_of, count_below, IsPadded, IsKept, IsLowest, IsOnly, IsNext}
+use Rattle.rf_domain.specs.Indices.{flag, has_bit, between, flags_of, count_below, IsPadded, IsKept, IsLowest, IsOnly, IsNext, HasNoneFrom}
 use Rattle.rf_domain.proofs.Bits.{length-flags_of, flag-flags_of, clear_past, past_range, and_false, or_true, padded_less, padded_more}
 use Rattle.rf_domain.proofs.Counting.{count_ext, count_none, count_tail, count_parted, count_joined, count_sole, count_alone, count_zero}
 
@@ -118,6 +118,15 @@ first_only size count first words set kept is one =
           let bit : has_bit words j ≡ true = sym (flag-flags_of size words kept.padded j) ∙ ap (λ s. flag s j) is ∙ there in
           count_alone (has_bit words) size (sym kept.counted ∙ one) j first (kept.padded.clear j bit) low bit here;
     }
+
+-- behind the one index there is none
+pub none_behind : (size count first from : ℕ) (words : List ℕ) (set : List Bool) → IsKept size count first words → flags_of size words ≡ set → count ≡ 1 → first < from → HasNoneFrom set from
+none_behind size count first from words set kept is one past = record {
+  none = λ j later. elim (cases_Bool (flag set j)) [
+    | inl here ↦ absurd (omega (arith, (first_only size count first words set kept is one).alone j here, later, past))
+    | inr out ↦ out
+  ];
+}
 
 pub only_counted : (size count first : ℕ) (words : List ℕ) (set : List Bool) → IsKept size count first words → flags_of size words ≡ set → (k : ℕ) → IsOnly set k → count ≡ 1
 only_counted size count first words set kept is k only =

@@ -109,6 +109,9 @@ impl IndexSet {
         ensures { MatchOption result (HasNoneFrom self.now from) (λ k. IsNext self.now from k) }
     {
         if from > self.first {
+            if self.count == 1 {
+                return None;
+            }
             return next_bit(&self.words, from);
         }
         if self.count == 0 {

@@ -8,6 +8,8 @@ fn ranges_cross_the_ends_of_words(rt: HostRuntime) {
     assert_eq!(rt; domains.next(1, 60), Some(131));
     domains.keep_range(1, 130, 131);
     assert_eq!(rt; domains.only(1), Some(131));
+    assert_eq!(rt; domains.next(1, 131), Some(131));
+    assert_eq!(rt; domains.next(1, 132), None);
     domains.put_back(1, 59, 64);
     assert_eq!(rt; domains.only(1), None);
     assert_eq!(rt; domains.count(1), 7);
