@@ -1,5 +1,6 @@
 -- Channels that are not allowed.
 use Rattle.std.proofs.Common.{◌≡◌, ◌∙◌, ℕ, ◌+◌, ◌-◌, ◌<◌, ◌≤◌, Bool, true, false, not, ◌&&◌, ◌⊎◌, List, [], length, get_or, refl, sym, ap, subst, inl, inr, arith}
+use Rattle.std.specs.Prelude.{Option, Some, None}
 use Rattle.std.proofs.lemmas.Bool.{cases_Bool, cases_lt, true≢false}
 use Rattle.std.proofs.lemmas.Bool.Decides.{nat_tests}
 use Rattle.std.proofs.lemmas.List.{get_or_past}
@@ -9,12 +10,13 @@ use Rattle.rf_log.specs.Hints.{is_barred}
 use Rattle.rf_log.specs.Relations.{IsLiving}
 use Rattle.rf_log.proofs.Kept.{each_below-from}
 use Rattle.rf_domain.proofs.Counting.{lt_cases}
+use Rattle.rf_domain.specs.Sets.{has, sizes}
 use Rattle.rf_trail.specs.Trace.{Trace, box_of}
 use Rattle.rf_propagate.specs.Laws.{IsQuiet}
 use Rattle.rf_props.specs.Sweeps.{left}
-use Rattle.rf_props.specs.Bans.{IsAllowedAt, AreAllowedBelow, IsFirstFlag, IsRunDone}
+use Rattle.rf_props.specs.Bans.{IsAllowedAt, AreAllowedBelow, IsFirstFlag, IsRunDone, KeepsAllowed}
 use Rattle.rf_props.proofs.StrikeLemmas.{sized_left}
-use Rattle.rf_props.proofs.KeptLemmas.{GoesOn, goes_on, left_earlier, stays}
+use Rattle.rf_props.proofs.KeptLemmas.{AreLess, GoesOn, goes_on, left_earlier, stays}
 
 -- while flags are looked over
 pub record LooksOver (flags : List Bool) (from : ℕ) (wanted : Bool) (at : ℕ) : Type 0 where
@@ -155,3 +157,27 @@ bans_quiet case t counts allowed living = record {
         absurd (omega (arith, sized_left case t counts c k here, none))
   ];
 }
+
+-- what is left of less is allowed too
+pub allowed_less : {case : Case} {old new : Box} {n : ℕ} → AreLess old new → AreAllowedBelow case old n → AreAllowedBelow case new n
+allowed_less less allowed = record { each = λ c low. record { each = λ k here. (allowed.each c low).each k (less c k here) } }
+
+-- nothing was kept yet
+pub allowed_none : {case : Case} {rest : Option (List (List Bool))} → rest ≡ None → KeepsAllowed case rest
+allowed_none {case} {rest} none = record { sized = record { each = λ sets some. absurd (none_some sets (sym none ∙ some)) }; allowed = λ sets some. absurd (none_some sets (sym none ∙ some)) }
+  where
+    none_some : (sets : List (List Bool)) → None ≡ Some sets → ⊥
+    none_some sets e = cc
+
+-- a copy of what is left when all of it is allowed
+pub allowed_copy : (case : Case) (t : Trace) (sets copy : List (List Bool)) → copy ≡ sets → sizes sets ≡ t.counts → has sets ≡ left t → t.counts ≡ counts_of case
+    → AreAllowedBelow case (left t) (length case.carriers) → KeepsAllowed case (Some copy)
+allowed_copy case t sets copy same sized is counts allowed = record {
+  sized = record { each = λ others some. subst (λ (x : List (List Bool)). sizes x ≡ counts_of case) (unwrapped others some) (ap sizes same ∙ sized ∙ counts) };
+  allowed = λ others some.
+      subst (λ (x : List (List Bool)). AreAllowedBelow case (has x) (length case.carriers)) (unwrapped others some)
+      (subst (λ (box : Box). AreAllowedBelow case box (length case.carriers)) (sym (ap has same ∙ is)) allowed);
+}
+  where
+    unwrapped : (others : List (List Bool)) → Some copy ≡ Some others → copy ≡ others
+    unwrapped others some = cc

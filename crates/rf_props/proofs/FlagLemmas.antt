@@ -1,16 +1,18 @@
 -- Flags of carriers.
-use Rattle.std.proofs.Common.{◌≡◌, ◌∙◌, ℕ, zero, suc, ◌+◌, ◌<◌, ◌≤◌, Bool, true, false, List, [], ◌∷◌, length, get_or, set, replicate, refl, sym, ap, inl, inr, arith}
-use Rattle.std.specs.Prelude.{Option, Some, None, MatchOption, is_some}
+use Rattle.std.proofs.Common.{◌≡◌, ◌∙◌, ℕ, zero, suc, ◌+◌, ◌<◌, ◌≤◌, Bool, true, false, List, [], ◌∷◌, ◌++◌, length, get_or, set, replicate, refl, sym, ap, subst, inl, inr, arith}
+use Rattle.std.specs.Prelude.{Option, Some, None, MatchOption, is_some, All, Contains}
 use Rattle.std.proofs.Math.ListN.{length-set}
 use Rattle.std.proofs.lemmas.Bool.{cases_eq, cases_lt, true≢false}
 use Rattle.std.proofs.lemmas.List.{get_or_past, get_or-replicate, get_or-set_same, get_or-set_other, length-replicate}
 use Rattle.rf_log.specs.Case.{Case, count_of, counts_of}
 use Rattle.rf_log.specs.Box.{Box, only_index}
 use Rattle.rf_log.proofs.Kept.{only_below-is}
+use Rattle.std.proofs.lemmas.List.Elements.{All-push, Contains-push, Contains-append_left}
 use Rattle.rf_domain.specs.Indices.{flag, IsOnly}
+use Rattle.rf_domain.proofs.Counting.{lt_cases}
 use Rattle.rf_domain.specs.Sets.{has, sizes}
 use Rattle.rf_zones.specs.declared.slices.TheConstants.{MAX_CARRIERS}
-use Rattle.rf_props.specs.Flags.{is_flagged, AreSingles, HaveFew}
+use Rattle.rf_props.specs.Flags.{is_flagged, AreSingles, HaveFew, AreFresh}
 use Rattle.rf_props.proofs.CountLemmas.{count_any, counts_length}
 use Rattle.rf_props.proofs.KeptLemmas.{AreSized}
 use Rattle.rf_props.proofs.SingleLemmas.{only_below-some, only_below-here}
@@ -122,3 +124,33 @@ within_all {flags} {others} {n} all so c on = elim (cases_lt c n) [
   | inl low ↦ so.each c low on
   | inr past ↦ absurd (true≢false (sym on ∙ get_or_past flags c false (omega arith)))
 ]
+
+-- those of the first so many carriers that are single and not known
+pub record FreshUpTo (n : ℕ) (single known : List Bool) (upto : ℕ) (fresh : List ℕ) : Type 0 where
+  pub there : All (λ c. c < n) fresh
+  pub all : (c : ℕ) → c < upto → is_flagged single c ≡ true → is_flagged known c ≡ false → Contains fresh c
+
+pub fresh_start : (n : ℕ) (single known : List Bool) → FreshUpTo n single known 0 []
+fresh_start n single known = record { there = λ i d none. absurd (omega arith); all = λ c none. absurd (omega arith) }
+
+-- one that is not single, or is known
+pub fresh_past : {n : ℕ} {single known : List Bool} {i : ℕ} {fresh : List ℕ} → FreshUpTo n single known i fresh → (is_flagged single i ≡ true → is_flagged known i ≡ false → ⊥) → FreshUpTo n single known (i + 1) fresh
+fresh_past {n} {single} {known} {i} {fresh} so other = record {
+  there = so.there;
+  all = λ c low on off. elim (lt_cases c i (omega arith)) [
+    | inl earlier ↦ so.all c earlier on off
+    | inr last ↦ absurd (other (ap (is_flagged single) (sym last) ∙ on) (ap (is_flagged known) (sym last) ∙ off))
+  ];
+}
+
+pub fresh_more : {n : ℕ} {single known : List Bool} {i : ℕ} {fresh : List ℕ} → FreshUpTo n single known i fresh → i < n → FreshUpTo n single known (i + 1) (fresh ++ i ∷ [])
+fresh_more {n} {single} {known} {i} {fresh} so room = record {
+  there = All-push (λ c. c < n) fresh i so.there room;
+  all = λ c low on off. elim (lt_cases c i (omega arith)) [
+    | inl earlier ↦ Contains-append_left fresh (i ∷ []) c (so.all c earlier on off)
+    | inr last ↦ subst (Contains (fresh ++ i ∷ [])) (sym last) (Contains-push fresh i)
+  ];
+}
+
+pub fresh_all : {n : ℕ} {single known : List Bool} {upto : ℕ} {fresh : List ℕ} → FreshUpTo n single known upto fresh → n ≤ upto → AreFresh n single known fresh
+fresh_all so all = record { there = so.there; all = λ c low. so.all c (omega (arith, low, all)) }

@@ -33,7 +33,8 @@ rests_some {case} {kinds} {sets} sized done = record {
     same : (others : List (List Bool)) → Some sets ≡ Some others → sets ≡ others
     same others is = cc
 
-less_by : (t : Trace) (inner outer : List (List Bool)) → has inner ≡ left t → AreWithin inner outer → AreLess (has outer) (left t)
+-- what is left of sets that lie within others
+pub less_by : (t : Trace) (inner outer : List (List Bool)) → has inner ≡ left t → AreWithin inner outer → AreLess (has outer) (left t)
 less_by t inner outer is within c k here = within.each c k (ap (λ f. f c k) is ∙ here)
 
 -- where no index has come back, the carriers that were single at rest are done with each other

@@ -2,7 +2,7 @@
 use Rattle.std.proofs.Common.{◌≡◌, ◌∙◌, ℕ, zero, suc, ◌+◌, ◌<◌, ◌≤◌, ◌==◌, Bool, true, false, ◌||◌, List, [], ◌∷◌, length, map, get_or, refl, sym, ap, subst, inl, inr, arith}
 use Rattle.std.specs.Prelude.{Result, Ok, Err, OnOk, drop, take, ◌-◌, Contains, Some, insert, is_some}
 use Rattle.std.specs.List.{remove}
-use Rattle.std.proofs.lemmas.Bool.{cases_eq, true≢false, ne_eqb, eq-eqb, eqb-true, and_parts}
+use Rattle.std.proofs.lemmas.Bool.{cases_Bool, cases_eq, true≢false, ne_eqb, eq-eqb, eqb-true, and_parts}
 use Rattle.std.proofs.lemmas.List.{take_all}
 use Rattle.std.proofs.lemmas.List.Sums.{list_all-from_AllPass}
 use Rattle.std.proofs.lemmas.List.Elements.{Contains-get_or}
@@ -16,7 +16,7 @@ use Rattle.rf_domain.proofs.Counting.{lt_cases, count_bound}
 use Rattle.rf_trail.specs.Trace.{Trace, box_of}
 use Rattle.rf_propagate.specs.Laws.{IsQuiet}
 use Rattle.rf_props.specs.Flags.{AreSingles, HaveFew}
-use Rattle.rf_props.specs.Sweeps.{left, has_at_most_one, IsClear, IsSwept, IsKindDone, AreKindsDone, AreAllDone}
+use Rattle.rf_props.specs.Sweeps.{left, has_at_most_one, IsClear, IsSwept, has_victim, target_role, IsKindDone, AreKindsDone, AreAllDone}
 use Rattle.rf_props.proofs.InsertLemmas.{insert_remove, length_remove}
 use Rattle.rf_props.proofs.SingleLemmas.{only_below-some}
 use Rattle.rf_props.proofs.StrikeLemmas.{sized_left}
@@ -72,22 +72,42 @@ settled_by case t kinds counts done c k here s =
     done.each s.kind s.among place (omega (arith, at.1, size)) (remove s.roles place) c (length_remove s.roles place at.1 ∙ size) in
     true≢false (sym (struck_out case t kinds c k counts here s) ∙ ap (λ rs. is_ruled_out case (left t) s.kind rs c k k) (sym is) ∙ clear.each k here)
 
--- the sweeps with the target in the first so many roles
-pub record PlacesDone (case : Case) (flags : List Bool) (kind : Kind) (start now : Trace) (upto : ℕ) : Type 0 where
+-- the sweeps of the first so many turns
+pub record TurnsDone (case : Case) (flags : List Bool) (kind : Kind) (start now : Trace) (upto : ℕ) : Type 0 where
   pub on : GoesOn case start now
-  pub done : (place : ℕ) → place < upto → IsSwept case (left now) flags kind place []
+  pub done : (turn : ℕ) → turn < upto → IsSwept case (left now) flags kind (target_role kind turn) []
 
-pub places_start : (case : Case) (flags : List Bool) (kind : Kind) (t : Trace) → PlacesDone case flags kind t t 0
-places_start case flags kind t = record { on = stays case t; done = λ place none. absurd (omega arith) }
+pub turns_start : (case : Case) (flags : List Bool) (kind : Kind) (t : Trace) → TurnsDone case flags kind t t 0
+turns_start case flags kind t = record { on = stays case t; done = λ turn none. absurd (omega arith) }
 
-pub places_more : {case : Case} {flags : List Bool} {kind : Kind} {start mid now : Trace} {i : ℕ} → PlacesDone case flags kind start mid i → mid.counts ≡ counts_of case → HaveFew (left mid) flags → GoesOn case mid now
-    → IsSwept case (left now) flags kind i [] → PlacesDone case flags kind start now (i + 1)
-places_more {case} {flags} {kind} {start} {mid} {now} {i} so counts few next swept = record {
+pub turns_more : {case : Case} {flags : List Bool} {kind : Kind} {start mid now : Trace} {i : ℕ} → TurnsDone case flags kind start mid i → mid.counts ≡ counts_of case → HaveFew (left mid) flags → GoesOn case mid now
+    → IsSwept case (left now) flags kind (target_role kind i) [] → TurnsDone case flags kind start now (i + 1)
+turns_more {case} {flags} {kind} {start} {mid} {now} {i} so counts few next swept = record {
   on = goes_on so.on next;
-  done = λ place low. elim (lt_cases place i (omega arith)) [
-    | inl earlier ↦ swept_on next counts few kind place [] (so.done place earlier)
-    | inr last ↦ subst (λ (x : ℕ). IsSwept case (left now) flags kind x []) (sym last) swept
+  done = λ turn low. elim (lt_cases turn i (omega arith)) [
+    | inl earlier ↦ swept_on next counts few kind (target_role kind turn) [] (so.done turn earlier)
+    | inr last ↦ subst (λ (x : ℕ). IsSwept case (left now) flags kind (target_role kind x) []) (sym last) swept
   ];
+}
+
+-- each turn is a role's
+pub role_of_turn : (kind : Kind) (turn : ℕ) → turn < roles_of kind → target_role kind turn < roles_of kind
+role_of_turn kind turn low = elim (cases_Bool (has_victim kind)) [
+  | inl some ↦ rw some (omega (arith, low))
+  | inr none ↦ rw none low
+]
+
+-- and each role has the turn that has its turn
+turn_of_role : (kind : Kind) (place : ℕ) → place < roles_of kind → target_role kind (target_role kind place) ≡ place
+turn_of_role kind place low = elim (cases_Bool (has_victim kind)) [
+  | inl some ↦ rw some (omega (arith, low))
+  | inr none ↦ rw none refl
+]
+
+pub turns_all : {case : Case} {flags : List Bool} {kind : Kind} {start now : Trace} {n : ℕ} → TurnsDone case flags kind start now n → roles_of kind ≤ n → IsKindDone case (left now) flags kind
+turns_all {case} {flags} {kind} {start} {now} so all = record {
+  each = λ place low.
+      subst (λ (x : ℕ). IsSwept case (left now) flags kind x []) (turn_of_role kind place low) (so.done (target_role kind place) (omega (arith, role_of_turn kind place low, all)));
 }
 
 -- one kind and then the others

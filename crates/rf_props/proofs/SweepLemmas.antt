@@ -1,10 +1,10 @@
 -- What a sweep keeps as it goes on.
-use Rattle.std.proofs.Common.{◌≡◌, ◌∙◌, ℕ, suc, ◌+◌, ◌-◌, ◌<◌, ◌≤◌, ◌==◌, Bool, true, false, List, [], ◌∷◌, ◌++◌, length, get_or, refl, sym, ap, subst, inl, inr, arith, length-append, append_assoc}
+use Rattle.std.proofs.Common.{◌≡◌, ◌∙◌, ℕ, suc, ◌+◌, ◌-◌, ◌<◌, ◌≤◌, ◌==◌, Bool, true, false, List, [], ◌∷◌, ◌++◌, length, get_or, take, set, refl, sym, ap, subst, inl, inr, arith, length-append, append_assoc}
 use Rattle.std.specs.Prelude.{insert, is_some, nat_lt, max, pos, ℤ, ◌≤ℤ◌, ◌↔◌}
 use Rattle.std.specs.List.{list_all}
 use Rattle.std.proofs.lemmas.Bool.{cases_Bool, cases_lt, and_parts, and_from, and_left, true≢false, ltb-true}
 use Rattle.std.proofs.lemmas.Bool.Decides.{nat_tests}
-use Rattle.std.proofs.lemmas.List.{append-nil, get_or_past}
+use Rattle.std.proofs.lemmas.List.{append-nil, get_or_past, get_or_default, take_more_set}
 use Rattle.std.proofs.lemmas.List.Folds.{list_all-append}
 use Rattle.rf_terms.specs.declared.kind.Kind.{Kind}
 use Rattle.rf_terms.specs.declared.kind.Kind.TheVariants.{Spacing, T3Two, T3Three, T5Two, T5ThreeA, T5ThreeB}
@@ -18,7 +18,7 @@ use Rattle.rf_log.specs.Box.{Box, only_index}
 use Rattle.rf_log.proofs.Instances.{known_roles}
 use Rattle.rf_trail.specs.Trace.{Trace}
 use Rattle.rf_domain.proofs.Counting.{lt_cases}
-use Rattle.rf_props.specs.Flags.{is_flagged, HaveFew, AreFlagged}
+use Rattle.rf_props.specs.Flags.{is_flagged, HaveFew, AreFlagged, AreFresh}
 use Rattle.rf_props.specs.Sweeps.{left, AreFixed, IsClear, IsSwept, IsKindDone, IsReach, IsReachOf, BreaksWithin, HasNoneOf, HasNoneWithin, KeepsRows, HaveMany}
 use Rattle.rf_props.proofs.InsertLemmas.{all_in_insert, among_others, distinct_others, get_insert, not_distinct}
 use Rattle.rf_props.proofs.InstanceLemmas.{clear_unbroken}
@@ -197,87 +197,108 @@ many_swept case t flags kind place first counts many = record {
       (list_all-append (λ o. is_some (only_index case (left t) o)) first rest ∙ and_left (list_all (λ o. is_some (only_index case (left t) o)) first) _ many.many);
 }
 
--- the sweeps over the first so many carriers in the next role
-pub record Sweeping (case : Case) (flags : List Bool) (kind : Kind) (place : ℕ) (first : List ℕ) (start now : Trace) (upto : ℕ) : Type 0 where
+-- the first roles with one more
+pub role_more : (others : List ℕ) (depth carrier n : ℕ) → length others ≡ 4 → depth < n → n ≤ 4 → take (depth + 1) (set others depth carrier) ≡ take depth others ++ carrier ∷ []
+role_more others depth carrier n four low few = take_more_set others depth carrier (omega arith)
+
+-- the sweeps of the first so many turns, in each of which a carrier takes the next role
+pub record Sweeping (case : Case) (flags : List Bool) (kind : Kind) (place : ℕ) (first : List ℕ) (carrier : ℕ → ℕ) (start now : Trace) (turns : ℕ) : Type 0 where
   pub on : GoesOn case start now
-  pub swept : (c : ℕ) → c < upto → IsSwept case (left now) flags kind place (first ++ c ∷ [])
+  pub swept : (turn : ℕ) → turn < turns → IsSwept case (left now) flags kind place (first ++ carrier turn ∷ [])
 
-pub sweeping_start : (case : Case) (flags : List Bool) (kind : Kind) (place : ℕ) (first : List ℕ) (t : Trace) → Sweeping case flags kind place first t t 0
-sweeping_start case flags kind place first t = record { on = stays case t; swept = λ c none. absurd (omega arith) }
+pub sweeping_start : (case : Case) (flags : List Bool) (kind : Kind) (place : ℕ) (first : List ℕ) (carrier : ℕ → ℕ) (t : Trace) → Sweeping case flags kind place first carrier t t 0
+sweeping_start case flags kind place first carrier t = record { on = stays case t; swept = λ turn none. absurd (omega arith) }
 
-pub sweeping_more : {case : Case} {flags : List Bool} {kind : Kind} {place : ℕ} {first : List ℕ} {start mid now : Trace} {i : ℕ} → Sweeping case flags kind place first start mid i
-    → mid.counts ≡ counts_of case → HaveFew (left mid) flags → GoesOn case mid now → IsSwept case (left now) flags kind place (first ++ i ∷ []) → Sweeping case flags kind place first start now (i + 1)
-sweeping_more {case} {flags} {kind} {place} {first} {start} {mid} {now} {i} so counts few next swept = record {
+pub sweeping_more : {case : Case} {flags : List Bool} {kind : Kind} {place : ℕ} {first : List ℕ} {carrier : ℕ → ℕ} {start mid now : Trace} {i : ℕ} → Sweeping case flags kind place first carrier start mid i
+    → mid.counts ≡ counts_of case → HaveFew (left mid) flags → GoesOn case mid now → IsSwept case (left now) flags kind place (first ++ carrier i ∷ []) → Sweeping case flags kind place first carrier start now (i + 1)
+sweeping_more {case} {flags} {kind} {place} {first} {carrier} {start} {mid} {now} {i} so counts few next swept = record {
   on = goes_on so.on next;
-  swept = λ c low. elim (lt_cases c i (omega arith)) [
-    | inl earlier ↦ swept_on next counts few kind place (first ++ c ∷ []) (so.swept c earlier)
-    | inr last ↦ subst (λ (x : ℕ). IsSwept case (left now) flags kind place (first ++ x ∷ [])) (sym last) swept
+  swept = λ turn low. elim (lt_cases turn i (omega arith)) [
+    | inl earlier ↦ swept_on next counts few kind place (first ++ carrier turn ∷ []) (so.swept turn earlier)
+    | inr last ↦ subst (λ (x : ℕ). IsSwept case (left now) flags kind place (first ++ carrier x ∷ [])) (sym last) swept
   ];
 }
 
 -- a carrier that is passed over
-pub sweeping_past : {case : Case} {flags : List Bool} {kind : Kind} {place : ℕ} {first : List ℕ} {start now : Trace} {i : ℕ} → Sweeping case flags kind place first start now i
-    → now.counts ≡ counts_of case → HaveFew (left now) flags → IsSwept case (left now) flags kind place (first ++ i ∷ []) → Sweeping case flags kind place first start now (i + 1)
+pub sweeping_past : {case : Case} {flags : List Bool} {kind : Kind} {place : ℕ} {first : List ℕ} {carrier : ℕ → ℕ} {start now : Trace} {i : ℕ} → Sweeping case flags kind place first carrier start now i
+    → now.counts ≡ counts_of case → HaveFew (left now) flags → IsSwept case (left now) flags kind place (first ++ carrier i ∷ []) → Sweeping case flags kind place first carrier start now (i + 1)
 sweeping_past {case} {now = now} so counts few swept = sweeping_more so counts few (stays case now) swept
 
 among_last : (first rest : List ℕ) (c : ℕ) → is_among ((first ++ c ∷ []) ++ rest) c ≡ true
 among_last [] rest c = grind (arith, nat_tests)
 among_last (x ∷ xs) rest c = elim (cases_Bool (x == c)) [ inl here ↦ rw here | inr other ↦ rw other (among_last xs rest c) ]
 
--- since it isn't flagged
-pub sweeping_unflagged : {case : Case} {flags : List Bool} {kind : Kind} {place : ℕ} {first : List ℕ} {start now : Trace} {i : ℕ} → Sweeping case flags kind place first start now i
-    → now.counts ≡ counts_of case → HaveFew (left now) flags → is_flagged flags i ≡ false → Sweeping case flags kind place first start now (i + 1)
-sweeping_unflagged {case} {flags} {kind} {place} {first} {start} {now} {i} so counts few off = sweeping_past so counts few (record { each = λ rest c whole flagged. at rest c flagged })
+-- one that isn't flagged
+pub unflagged_swept : (case : Case) (t : Trace) (flags : List Bool) (kind : Kind) (place : ℕ) (first : List ℕ) (r : ℕ) → t.counts ≡ counts_of case → is_flagged flags r ≡ false
+    → IsSwept case (left t) flags kind place (first ++ r ∷ [])
+unflagged_swept case t flags kind place first r counts off = record { each = λ rest c whole flagged. at rest c flagged }
   where
-    at : (rest : List ℕ) (c : ℕ) → AreFlagged case (left now) flags ((first ++ i ∷ []) ++ rest) → IsClear case (left now) kind (insert ((first ++ i ∷ []) ++ rest) place c) c
-    at rest c flagged = elim (cases_Bool (list_all (λ o. is_some (only_index case (left now) o)) ((first ++ i ∷ []) ++ rest))) [
-      | inr many ↦ many_clear case (left now) kind place ((first ++ i ∷ []) ++ rest) c (sized_left case now counts) many
+    at : (rest : List ℕ) (c : ℕ) → AreFlagged case (left t) flags ((first ++ r ∷ []) ++ rest) → IsClear case (left t) kind (insert ((first ++ r ∷ []) ++ rest) place c) c
+    at rest c flagged = elim (cases_Bool (list_all (λ o. is_some (only_index case (left t) o)) ((first ++ r ∷ []) ++ rest))) [
+      | inr many ↦ many_clear case (left t) kind place ((first ++ r ∷ []) ++ rest) c (sized_left case t counts) many
       | inl all ↦
-          let among = among_last first rest i in
-          absurd (true≢false (sym (flagged.each i among (among_all (λ x. is_some (only_index case (left now) x)) ((first ++ i ∷ []) ++ rest) i all among)) ∙ off))
+          let among = among_last first rest r in
+          absurd (true≢false (sym (flagged.each r among (among_all (λ x. is_some (only_index case (left t) x)) ((first ++ r ∷ []) ++ rest) r all among)) ∙ off))
     ]
 
--- since it has a role already
-pub sweeping_twice : {case : Case} {flags : List Bool} {kind : Kind} {place : ℕ} {first : List ℕ} {start now : Trace} {i : ℕ} → Sweeping case flags kind place first start now i
-    → now.counts ≡ counts_of case → HaveFew (left now) flags → is_among first i ≡ true → Sweeping case flags kind place first start now (i + 1)
-sweeping_twice {case} {flags} {kind} {place} {first} {start} {now} {i} so counts few among = sweeping_past so counts few (record { each = λ rest c whole flagged. twice rest c })
+-- one that has a role already
+pub twice_swept : (case : Case) (t : Trace) (flags : List Bool) (kind : Kind) (place : ℕ) (first : List ℕ) (r : ℕ) → t.counts ≡ counts_of case → is_among first r ≡ true
+    → IsSwept case (left t) flags kind place (first ++ r ∷ [])
+twice_swept case t flags kind place first r counts among = record { each = λ rest c whole flagged. twice rest c }
   where
-    twice : (rest : List ℕ) (c : ℕ) → IsClear case (left now) kind (insert ((first ++ i ∷ []) ++ rest) place c) c
-    twice rest c = clear_unbroken case (left now) kind (insert ((first ++ i ∷ []) ++ rest) place c) c (λ k here. sized_left case now counts c k here)
-        (λ k here good sole broken. not_distinct first rest i among (distinct_others ((first ++ i ∷ []) ++ rest) place c (distinct_of case kind (insert ((first ++ i ∷ []) ++ rest) place c) good)))
+    twice : (rest : List ℕ) (c : ℕ) → IsClear case (left t) kind (insert ((first ++ r ∷ []) ++ rest) place c) c
+    twice rest c = clear_unbroken case (left t) kind (insert ((first ++ r ∷ []) ++ rest) place c) c (λ k here. sized_left case t counts c k here)
+        (λ k here good sole broken. not_distinct first rest r among (distinct_others ((first ++ r ∷ []) ++ rest) place c (distinct_of case kind (insert ((first ++ r ∷ []) ++ rest) place c) good)))
 
--- since it is the last that is open, and known as all before it are
-pub sweeping_known : {case : Case} {flags known : List Bool} {kind : Kind} {place : ℕ} {first : List ℕ} {start now : Trace} {i : ℕ} → Sweeping case flags kind place first start now i
-    → now.counts ≡ counts_of case → HaveFew (left now) flags → IsSwept case (left now) known kind place [] → length first + 2 ≡ roles_of kind
-    → list_all (is_flagged known) first ≡ true → is_flagged known i ≡ true → Sweeping case flags kind place first start now (i + 1)
-sweeping_known {case} {flags} {known} {kind} {place} {first} {start} {now} {i} so counts few done last all one = sweeping_past so counts few (record { each = λ rest c whole flagged. at rest c whole })
+-- one that takes the last open role, and is known as all before it are
+pub known_swept : (case : Case) (t : Trace) (flags known : List Bool) (kind : Kind) (place : ℕ) (first : List ℕ) (r : ℕ) → IsSwept case (left t) known kind place [] → length first + 2 ≡ roles_of kind
+    → list_all (is_flagged known) first ≡ true → is_flagged known r ≡ true → IsSwept case (left t) flags kind place (first ++ r ∷ [])
+known_swept case t flags known kind place first r done last all one = record { each = λ rest c whole flagged. at rest c whole }
   where
-    every : (rest : List ℕ) → length ((first ++ i ∷ []) ++ rest) + 1 ≡ roles_of kind → list_all (is_flagged known) ((first ++ i ∷ []) ++ rest) ≡ true
-    every [] whole = ap (list_all (is_flagged known)) (append-nil (first ++ i ∷ [])) ∙ list_all-append (is_flagged known) first (i ∷ []) ∙ and_from _ _ all (and_from (is_flagged known i) true one refl)
-    every (r ∷ rest) whole = absurd (omega (arith, length-append (first ++ i ∷ []) (r ∷ rest), length-append first (i ∷ []), whole, last))
+    every : (rest : List ℕ) → length ((first ++ r ∷ []) ++ rest) + 1 ≡ roles_of kind → list_all (is_flagged known) ((first ++ r ∷ []) ++ rest) ≡ true
+    every [] whole = ap (list_all (is_flagged known)) (append-nil (first ++ r ∷ [])) ∙ list_all-append (is_flagged known) first (r ∷ []) ∙ and_from _ _ all (and_from (is_flagged known r) true one refl)
+    every (o ∷ rest) whole = absurd (omega (arith, length-append (first ++ r ∷ []) (o ∷ rest), length-append first (r ∷ []), whole, last))
 
-    at : (rest : List ℕ) (c : ℕ) → length ((first ++ i ∷ []) ++ rest) + 1 ≡ roles_of kind → IsClear case (left now) kind (insert ((first ++ i ∷ []) ++ rest) place c) c
-    at rest c whole = done.each ((first ++ i ∷ []) ++ rest) c whole (record { each = λ o among some. among_all (is_flagged known) ((first ++ i ∷ []) ++ rest) o (every rest whole) among })
+    at : (rest : List ℕ) (c : ℕ) → length ((first ++ r ∷ []) ++ rest) + 1 ≡ roles_of kind → IsClear case (left t) kind (insert ((first ++ r ∷ []) ++ rest) place c) c
+    at rest c whole = done.each ((first ++ r ∷ []) ++ rest) c whole (record { each = λ o among some. among_all (is_flagged known) ((first ++ r ∷ []) ++ rest) o (every rest whole) among })
 
-pub swept_all : (case : Case) (flags : List Bool) (kind : Kind) (place : ℕ) (first : List ℕ) (start now : Trace) (n : ℕ) → Sweeping case flags kind place first start now n
-    → now.counts ≡ counts_of case → length case.carriers ≤ n → (length first + 1 ≡ roles_of kind → ⊥) → IsSwept case (left now) flags kind place first
-swept_all case flags kind place first start now n so counts all open_roles = record { each = at }
+-- where each carrier of the case took the next role
+pub each_swept : (case : Case) (t : Trace) (flags : List Bool) (kind : Kind) (place : ℕ) (first : List ℕ) → t.counts ≡ counts_of case → (length first + 1 ≡ roles_of kind → ⊥)
+    → ((r : ℕ) → r < length case.carriers → IsSwept case (left t) flags kind place (first ++ r ∷ [])) → IsSwept case (left t) flags kind place first
+each_swept case t flags kind place first counts open_roles each = record { each = at }
   where
-    at : (rest : List ℕ) (c : ℕ) → length (first ++ rest) + 1 ≡ roles_of kind → AreFlagged case (left now) flags (first ++ rest) → IsClear case (left now) kind (insert (first ++ rest) place c) c
+    at : (rest : List ℕ) (c : ℕ) → length (first ++ rest) + 1 ≡ roles_of kind → AreFlagged case (left t) flags (first ++ rest) → IsClear case (left t) kind (insert (first ++ rest) place c) c
     at [] c whole flagged = absurd (open_roles (ap (λ xs. length xs + 1) (sym (append-nil first)) ∙ whole))
     at (r ∷ rest) c whole flagged =
         let is : (first ++ r ∷ []) ++ rest ≡ first ++ r ∷ rest = append_assoc first (r ∷ []) rest in
-        elim (cases_lt r n) [
+        elim (cases_lt r (length case.carriers)) [
           | inl low ↦
-              subst (λ (xs : List ℕ). IsClear case (left now) kind (insert xs place c) c) is
-              ((so.swept r low).each rest c (ap (λ xs. length xs + 1) is ∙ whole) (subst (AreFlagged case (left now) flags) (sym is) flagged))
-          | inr beyond ↦ clear_unbroken case (left now) kind (insert (first ++ r ∷ rest) place c) c (λ k here. sized_left case now counts c k here)
+              subst (λ (xs : List ℕ). IsClear case (left t) kind (insert xs place c) c) is
+              ((each r low).each rest c (ap (λ xs. length xs + 1) is ∙ whole) (subst (AreFlagged case (left t) flags) (sym is) flagged))
+          | inr beyond ↦ clear_unbroken case (left t) kind (insert (first ++ r ∷ rest) place c) c (λ k here. sized_left case t counts c k here)
               (λ k here good sole broken.
               let known = all_in_insert (λ x. nat_lt x (length case.carriers)) (first ++ r ∷ rest) place c (known_roles case kind (insert (first ++ r ∷ rest) place c) good) in
               let parts = and_parts (list_all (λ x. nat_lt x (length case.carriers)) first) _ (sym (list_all-append (λ x. nat_lt x (length case.carriers)) first (r ∷ rest)) ∙ known.1) in
               let here = and_parts (nat_lt r (length case.carriers)) _ parts.1 in
               absurd (omega (arith, ltb-true r (length case.carriers) here.0)))
         ]
+
+-- where each fresh carrier took the last open role, and those in the others are known
+pub fresh_swept : (case : Case) (start now : Trace) (flags known : List Bool) (kind : Kind) (place : ℕ) (first fresh : List ℕ) (n : ℕ) → now.counts ≡ counts_of case → AreFresh (length case.carriers) flags known fresh
+    → IsSwept case (left now) known kind place [] → length first + 2 ≡ roles_of kind → list_all (is_flagged known) first ≡ true
+    → Sweeping case flags kind place first (λ i. get_or fresh i 0) start now n → length fresh ≤ n → IsSwept case (left now) flags kind place first
+fresh_swept case start now flags known kind place first fresh n counts new done last all so every = each_swept case now flags kind place first counts (λ whole. absurd (omega arith)) at
+  where
+    at : (r : ℕ) → r < length case.carriers → IsSwept case (left now) flags kind place (first ++ r ∷ [])
+    at r there = elim (cases_Bool (is_flagged flags r)) [
+      | inr off ↦ unflagged_swept case now flags kind place first r counts off
+      | inl on ↦ elim (cases_Bool (is_flagged known r)) [
+        | inl was ↦ known_swept case now flags known kind place first r done last all was
+        | inr not_yet ↦
+            let turn = new.all r there on not_yet in
+            subst (λ (x : ℕ). IsSwept case (left now) flags kind place (first ++ x ∷ [])) (get_or_default fresh turn.0 0 r turn.1 ∙ turn.2) (so.swept turn.0 (omega (arith, turn.1, every)))
+      ]
+    ]
 
 pub striking_start : (case : Case) (kind : Kind) (place : ℕ) (others freqs : List ℕ) (t : Trace) → AreFixed case (left t) others freqs → Striking case kind place others freqs t t 0
 striking_start case kind place others freqs t fixed = record { on = stays case t; fixed = fixed; clear = λ c none. absurd (omega arith) }

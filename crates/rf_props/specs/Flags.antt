@@ -1,5 +1,5 @@
 -- Flags of carriers.
-use Rattle.std.specs.Prelude.{◌≡◌, ℕ, List, Bool, true, false, is_some, slice_index_or}
+use Rattle.std.specs.Prelude.{◌≡◌, ℕ, ◌<◌, List, Bool, true, false, is_some, slice_index_or, All, Contains}
 use Rattle.rf_log.specs.Case.{Case, is_among}
 use Rattle.rf_log.specs.Box.{Box, only_index}
 
@@ -14,6 +14,11 @@ pub record AreSingles (case : Case) (has : Box) (flags : List Bool) : Type 0 whe
 -- a flagged carrier has at most one index
 pub record HaveFew (has : Box) (flags : List Bool) : Type 0 where
   pub each : (c j k : ℕ) → is_flagged flags c ≡ true → has c j ≡ true → has c k ≡ true → j ≡ k
+
+-- some of the first n carriers, and among them all that are single and not known
+pub record AreFresh (n : ℕ) (single known : List Bool) (fresh : List ℕ) : Type 0 where
+  pub there : All (λ c. c < n) fresh
+  pub all : (c : ℕ) → c < n → is_flagged single c ≡ true → is_flagged known c ≡ false → Contains fresh c
 
 -- those of these carriers that have one index are flagged
 pub record AreFlagged (case : Case) (has : Box) (flags : List Bool) (others : List ℕ) : Type 0 where

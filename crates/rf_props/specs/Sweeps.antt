@@ -1,8 +1,9 @@
 -- What a sweep over the instances of a kind leaves.
-use Rattle.std.specs.Prelude.{◌≡◌, ℕ, ◌+◌, ◌<◌, ◌≤◌, ℤ, pos, List, ◌++◌, Bool, true, false, nat_le, insert, length, map, is_some, [], Contains}
+use Rattle.std.specs.Prelude.{if◌then◌else◌, ◌≡◌, ℕ, ◌+◌, ◌-◌, ◌<◌, ◌≤◌, ℤ, pos, List, ◌++◌, Bool, true, false, nat_le, insert, length, map, is_some, [], Contains}
 use Rattle.std.specs.List.{list_all}
 use Rattle.std.specs.Option.{unwrap_or}
 use Rattle.rf_terms.specs.declared.kind.Kind.{Kind}
+use Rattle.rf_terms.specs.declared.kind.Kind.TheVariants.{Spacing}
 use Rattle.rf_terms.specs.Kinds.{roles_of}
 use Rattle.rf_terms.specs.Forms.{AreFrequencies}
 use Rattle.rf_terms.specs.Windows.{Breaks}
@@ -43,6 +44,15 @@ pub record IsKindDone (case : Case) (has : Box) (flags : List Bool) (kind : Kind
 
 pub record AreKindsDone (case : Case) (has : Box) (flags : List Bool) (kinds : List Kind) : Type 0 where
   pub each : (kind : Kind) → Contains kinds kind → IsKindDone case has flags kind
+
+-- whether the last role of the kind is a victim's
+abbrev pub has_victim : Kind → Bool
+has_victim Spacing = false
+has_victim kind = true
+
+-- the role that the target has in a turn: the victim's first, where there is one
+abbrev pub target_role : Kind → ℕ → ℕ
+target_role kind turn = if has_victim kind then roles_of kind - 1 - turn else turn
 
 -- no carrier has an index left that breaks an instance of these kinds, whoever has one index
 pub record AreAllDone (case : Case) (has : Box) (kinds : List Kind) : Type 0 where

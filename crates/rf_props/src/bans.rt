@@ -1,26 +1,45 @@
-ghost use Rattle.std.specs.Prelude.{◌≡◌, ◌<◌, ◌≤◌, [], List, OnOk, IfOk, true, length};
+ghost use Rattle.std.specs.Prelude.{◌≡◌, ◌<◌, ◌≤◌, [], List, OnOk, IfOk, None, true, length};
 ghost use Rattle.rf_log.specs.Case.{count_of, counts_of};
 ghost use Rattle.rf_log.specs.Hints.{Line};
 ghost use Rattle.rf_zones.specs.declared.slices.TheConstants.{MAX_CARRIERS};
 ghost use Rattle.rf_problem.specs.Problem.{case_of};
 ghost use Rattle.rf_propagate.specs.Laws.{Extends};
 ghost use Rattle.rf_props.specs.Sweeps.{left};
-ghost use Rattle.rf_props.specs.Bans.{IsAllowedAt, AreAllowedBelow, IsRunDone, IsFirstFlag};
+ghost use Rattle.rf_props.specs.Bans.{IsAllowedAt, AreAllowedBelow, IsRunDone, IsFirstFlag, KeepsAllowed, allowed_last};
 
 use crate::strike::is_left;
 use crate::theory::ProblemTheory;
 use rf_base::NoMemory;
+use rf_domain::Domains;
 use rf_problem::Problem;
 use rf_propagate::{Outcome, Propagator, outcome_of, remove_banned};
 use rf_trail::Trail;
 
-/// Takes out the channels that are not allowed.
+/// Takes out the channels that are not allowed. It keeps what was left then: where no channel has come back since, there is
+/// nothing to take out.
 #[derive(Drop)]
-pub struct Bans {}
+pub struct Bans {
+    rest: Option<Domains>,
+}
 
 impl Bans {
-    pub fn new() -> Bans {
-        Bans {}
+    /// Nothing was taken out yet.
+    pub fn new() -> Bans
+        ensures { result.rest ≡ None }
+    {
+        Bans { rest: None }
+    }
+
+    // Whether no channel has come back since all that were left were allowed.
+    fn is_done(&self, problem: &Problem, trail: &Trail) -> bool
+        requires counts { trail.now.counts ≡ counts_of (case_of problem.now) }
+        requires kept { KeepsAllowed (case_of problem.now) self.now.rest }
+        ensures { result ≡ true → AreAllowedBelow (case_of problem.now) (left trail.now) (length (case_of problem.now).carriers) }
+    {
+        let Some(rest) = &self.rest else {
+            return false;
+        };
+        trail.domains().is_within(rest)
     }
 }
 
@@ -31,18 +50,23 @@ impl<'a> Propagator<ProblemTheory<'a>> for Bans {
 
     ghost held = { λ _. [] };
 
-    ghost fits = { λ _ _. Unit {0} };
+    ghost fits = { λ p t. KeepsAllowed (case_of t.problem.now) p.rest };
 
     fn settle(
         &mut self,
         theory: &ProblemTheory<'a>,
         trail: &mut Trail,
     ) -> Result<Outcome, NoMemory> {
-        strike_all_bans(theory.problem(), trail)?;
+        let problem = theory.problem();
+        if self.is_done(problem, trail) {
+            return Ok(outcome_of(trail));
+        }
+        strike_all_bans(problem, trail)?;
+        self.rest = Some(trail.domains().copy(theory.alloc())?);
         Ok(outcome_of(trail))
     }
 
-    ghost lasts = { λ _ _ _ _ _ _. tt };
+    ghost lasts = { λ p t u fit same more. allowed_last fit same };
 }
 
 // Takes out what is not allowed to any carrier.

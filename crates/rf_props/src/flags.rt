@@ -1,13 +1,15 @@
-ghost use Rattle.std.specs.Prelude.{◌≡◌, ℕ, ◌<◌, All, true, false, length};
+ghost use Rattle.std.specs.Prelude.{◌≡◌, ℕ, ◌<◌, All, true, false, length, IfOk};
 ghost use Rattle.std.specs.List.{list_all};
 ghost use Rattle.rf_log.specs.Case.{counts_of};
 ghost use Rattle.rf_domain.specs.Sets.{has, sizes};
 ghost use Rattle.rf_problem.specs.Problem.{case_of};
-ghost use Rattle.rf_props.specs.Flags.{is_flagged, AreSingles};
+ghost use Rattle.rf_props.specs.Flags.{is_flagged, AreSingles, AreFresh};
 
+use rf_base::NoMemory;
 use rf_domain::Domains;
 use rf_problem::Problem;
 use rf_zones::MAX_CARRIERS;
+use std::alloc::Global;
 
 /// A flag for each carrier.
 pub type Flags = [bool; MAX_CARRIERS];
@@ -41,6 +43,28 @@ pub fn are_within(flags: &Flags, others: &Flags) -> bool
         }
     }
     true
+}
+
+/// The carriers with one index that are not known. `NoMemory` where no memory is found.
+pub fn fresh_of(
+    alloc: Global,
+    problem: &Problem,
+    single: &Flags,
+    known: &Flags,
+) -> Result<Vec<usize>, NoMemory>
+    ensures { IfOk result (λ fresh. AreFresh (length problem.now.carriers) single.now known.now fresh.items) }
+{
+    let mut fresh = Vec::new(alloc);
+    for carrier in 0..problem.carriers() {
+        if !single[carrier] {
+            continue;
+        }
+        if known[carrier] {
+            continue;
+        }
+        fresh.push(carrier)?;
+    }
+    Ok(fresh)
 }
 
 /// Whether all these carriers have the flag.

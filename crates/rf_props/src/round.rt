@@ -1,13 +1,15 @@
-ghost use Rattle.std.specs.Prelude.{◌≡◌, List, OnOk};
+ghost use Rattle.std.specs.Prelude.{◌≡◌, ◌<◌, List, OnOk, length};
+ghost use Rattle.rf_terms.specs.Kinds.{roles_of};
 ghost use Rattle.rf_log.specs.Case.{counts_of};
 ghost use Rattle.rf_log.specs.Hints.{Line};
 ghost use Rattle.rf_problem.specs.Problem.{case_of};
 ghost use Rattle.rf_propagate.specs.Laws.{Extends};
-ghost use Rattle.rf_props.specs.Flags.{HaveFew};
+ghost use Rattle.rf_props.specs.Flags.{HaveFew, AreFresh};
 ghost use Rattle.rf_props.specs.Sweeps.{left, IsReach, IsKindDone, AreKindsDone};
+ghost use Rattle.rf_props.specs.Sweeps as sweeps;
 ghost use Rattle.rf_props.specs.Live.{AreMarked};
 
-use crate::flags::{Flags, are_within};
+use crate::flags::{Flags, are_within, fresh_of};
 use crate::live::Live;
 use crate::sweep::Sweep;
 use rf_base::NoMemory;
@@ -37,8 +39,9 @@ pub fn sweep_round(
     if are_within(single, known) {
         return Ok(());
     }
+    let fresh = fresh_of(alloc, problem, single, known)?;
     let mut live = Live::of(alloc, problem, trail)?;
-    sweep_kinds(problem, kinds, single, known, trail, &mut live)
+    sweep_kinds(problem, kinds, single, known, &fresh, trail, &mut live)
 }
 
 // The kinds, one after another.
@@ -47,11 +50,13 @@ fn sweep_kinds(
     kinds: &[Kind],
     single: &Flags,
     known: &Flags,
+    fresh: &[usize],
     trail: &mut Trail,
     live: &mut Live,
 ) -> Result<(), NoMemory>
     requires counts { trail.old.counts ≡ counts_of (case_of problem.now) }
     requires live { AreMarked (case_of problem.now) (left trail.old) live.old }
+    requires fresh { AreFresh (length problem.now.carriers) single.now known.now fresh.now }
     requires few { HaveFew (left trail.old) single.now }
     requires few_known { HaveFew (left trail.old) known.now }
     requires done { AreKindsDone (case_of problem.now) (left trail.old) known.now kinds.now }
@@ -63,8 +68,8 @@ fn sweep_kinds(
     match kinds {
         [] => Ok(()),
         [kind, rest @ ..] => {
-            sweep_kind(problem, *kind, single, known, trail, live)?;
-            sweep_kinds(problem, rest, single, known, trail, live)
+            sweep_kind(problem, *kind, single, known, fresh, trail, live)?;
+            sweep_kinds(problem, rest, single, known, fresh, trail, live)
         }
     }
 }
@@ -75,11 +80,13 @@ fn sweep_kind(
     kind: Kind,
     single: &Flags,
     known: &Flags,
+    fresh: &[usize],
     trail: &mut Trail,
     live: &mut Live,
 ) -> Result<(), NoMemory>
     requires counts { trail.old.counts ≡ counts_of (case_of problem.now) }
     requires live { AreMarked (case_of problem.now) (left trail.old) live.old }
+    requires fresh { AreFresh (length problem.now.carriers) single.now known.now fresh.now }
     requires few { HaveFew (left trail.old) single.now }
     requires few_known { HaveFew (left trail.old) known.now }
     requires done { IsKindDone (case_of problem.now) (left trail.old) known.now kind }
@@ -92,18 +99,31 @@ fn sweep_kind(
     if reach == 0 {
         return Ok(());
     }
-    for place in 0..roles(kind) {
+    for turn in 0..roles(kind) {
         let sweep = Sweep {
             problem,
             kind,
-            place,
+            place: target_role(kind, turn),
             reach,
             single,
             known,
+            fresh,
         };
         sweep.extend([0; 4], 0, trail, live)?;
     }
     Ok(())
+}
+
+// The role that the target has in a turn. The victim's comes first: no order of roles keeps a carrier from it, so that most falls
+// there, and little is left near when the sources have their turns.
+fn target_role(kind: Kind, turn: usize) -> usize
+    requires { turn < roles_of kind }
+    ensures { result ≡ sweeps.target_role kind turn }
+{
+    match kind {
+        Kind::Spacing => turn,
+        _ => roles(kind) - 1 - turn,
+    }
 }
 
 // The most that a carrier asks of a kind, in kilohertz.

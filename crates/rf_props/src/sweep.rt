@@ -1,4 +1,5 @@
 ghost use Rattle.std.specs.Prelude.{◌≡◌, ◌+◌, ◌<◌, ◌≤◌, All, List, Ok, OnOk, length, take, true};
+ghost use Rattle.std.specs.List.{list_all};
 ghost use Rattle.rf_terms.specs.Kinds.{roles_of};
 ghost use Rattle.rf_terms.specs.Forms.{AreFrequencies};
 ghost use Rattle.rf_log.specs.Case.{counts_of};
@@ -7,6 +8,7 @@ ghost use Rattle.rf_log.specs.Hints.{Line};
 ghost use Rattle.rf_zones.specs.declared.slices.TheConstants.{MAX_CARRIERS};
 ghost use Rattle.rf_problem.specs.Problem.{case_of};
 ghost use Rattle.rf_propagate.specs.Laws.{Extends};
+ghost use Rattle.rf_props.specs.Flags.{is_flagged, AreFresh};
 ghost use Rattle.rf_props.specs.Sweeps.{left, IsReach, IsReachOf, BreaksWithin, IsSwept, IsReady, AreFixed, HasNoneWithin};
 ghost use Rattle.rf_props.specs.Live.{AreMarked};
 
@@ -31,6 +33,8 @@ pub struct Sweep<'a> {
     pub single: &'a Flags,
     /// The carriers whose instances with each other are done.
     pub known: &'a Flags,
+    /// The carriers with one index that are not known.
+    pub fresh: &'a [usize],
 }
 
 impl Sweep<'_> {
@@ -47,6 +51,7 @@ impl Sweep<'_> {
         requires place { self.now.place < roles_of self.now.kind }
         requires reach { IsReach (case_of self.now.problem.now) self.now.kind self.now.reach }
         requires ready { IsReady (case_of self.now.problem.now) (left trail.old) self.now.single.now self.now.known.now self.now.kind self.now.place }
+        requires fresh { AreFresh (length self.now.problem.now.carriers) self.now.single.now self.now.known.now self.now.fresh.now }
         requires depth { depth < roles_of self.now.kind }
         requires known { All (λ c. c < length self.now.problem.now.carriers) (take depth others) }
         ensures counts { trail.new.counts ≡ trail.old.counts }
@@ -58,7 +63,9 @@ impl Sweep<'_> {
             return self.strike_all(&others[..depth], trail, live);
         }
         let count = self.problem.carriers();
-        let done = depth + 2 == roles(self.kind) && are_flagged(self.known, &others[..depth]);
+        if depth + 2 == roles(self.kind) && are_flagged(self.known, &others[..depth]) {
+            return self.complete(others, depth, trail, live);
+        }
         for carrier in 0..count {
             if !self.single[carrier] {
                 continue;
@@ -66,12 +73,44 @@ impl Sweep<'_> {
             if is_among(&others[..depth], carrier) {
                 continue;
             }
-            if done && self.known[carrier] {
-                continue;
-            }
             let mut more = others;
             more[depth] = carrier;
             self.extend(more, depth + 1, trail, live)?;
+        }
+        Ok(())
+    }
+
+    // Removes what breaks an instance whose other roles but one are taken by `others[..depth]`, which are known: what is not done
+    // has a fresh carrier in the last.
+    fn complete(
+        &self,
+        others: [usize; 4],
+        depth: usize,
+        trail: &mut Trail,
+        live: &mut Live,
+    ) -> Result<(), NoMemory>
+        requires counts { trail.old.counts ≡ counts_of (case_of self.now.problem.now) }
+        requires live { AreMarked (case_of self.now.problem.now) (left trail.old) live.old }
+        requires place { self.now.place < roles_of self.now.kind }
+        requires reach { IsReach (case_of self.now.problem.now) self.now.kind self.now.reach }
+        requires ready { IsReady (case_of self.now.problem.now) (left trail.old) self.now.single.now self.now.known.now self.now.kind self.now.place }
+        requires fresh { AreFresh (length self.now.problem.now.carriers) self.now.single.now self.now.known.now self.now.fresh.now }
+        requires depth { depth ≤ 2 }
+        requires last { depth + 2 ≡ roles_of self.now.kind }
+        requires carriers { All (λ c. c < length self.now.problem.now.carriers) (take depth others) }
+        requires done { list_all (is_flagged self.now.known.now) (take depth others) ≡ true }
+        ensures counts { trail.new.counts ≡ trail.old.counts }
+        ensures sound { (lines : List Line) → Extends (case_of self.now.problem.now) lines trail.old.entries trail.new.entries }
+        ensures live { OnOk result (AreMarked (case_of self.now.problem.now) (left trail.new) live.new) }
+        ensures swept { OnOk result (IsSwept (case_of self.now.problem.now) (left trail.new) self.now.single.now self.now.kind self.now.place (take depth others)) }
+    {
+        for carrier in self.fresh {
+            if is_among(&others[..depth], *carrier) {
+                continue;
+            }
+            let mut more = others;
+            more[depth] = *carrier;
+            self.strike_all(&more[..depth + 1], trail, live)?;
         }
         Ok(())
     }

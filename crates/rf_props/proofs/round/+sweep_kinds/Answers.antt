@@ -20,10 +20,13 @@ sweep_kinds-requires t c =
         (
           c.in_ok-sweep_kind-in-len1-up.ensures.live,
           (
-            few_on on c.requires.few,
+            c.requires.fresh,
             (
-              few_on on c.requires.few_known,
-              kinds_on on c.requires.counts c.requires.few_known _ (others_done c.args.kinds.now _ _ is c.requires.done),
+              few_on on c.requires.few,
+              (
+                few_on on c.requires.few_known,
+                kinds_on on c.requires.counts c.requires.few_known _ (others_done c.args.kinds.now _ _ is c.requires.done),
+              ),
             ),
           ),
         ),

@@ -10,3 +10,6 @@ returns-then-are_within-clause-swept c = known_all c.args.kinds.now (c.are_withi
 
 pub returns-in_err-live-clause-sound : goal.returns-in_err-live-clause-sound
 returns-in_err-live-clause-sound c = λ lines. same
+
+pub returns-in_err-fresh-clause-sound : goal.returns-in_err-fresh-clause-sound
+returns-in_err-fresh-clause-sound c = λ lines. same

@@ -11,5 +11,5 @@ decreases-extend l = roles_of l.self.now.kind - l.depth
 
 abbrev pub invariant-loop-carrier : goal.invariant-loop-carrier
 invariant-loop-carrier l =
-    Sweeping (case_of l.self.problem.now) l.self.single.now l.self.kind l.self.place (take l.depth l.others) l.initial.trail l.trail l.carrier
+    Sweeping (case_of l.self.problem.now) l.self.single.now l.self.kind l.self.place (take l.depth l.others) (λ c. c) l.initial.trail l.trail l.carrier
     × AreMarked (case_of l.self.problem.now) (left l.trail) l.live
