@@ -2,7 +2,9 @@ pub mod Bytes
 pub mod DecimalLemmas
 pub mod FileNameLemmas
 pub mod InputLaws
+pub mod NameLemmas
 pub mod PaddedLemmas
 pub mod Reading
 pub mod ScriptLaws
+pub mod TextLemmas
 pub mod Told

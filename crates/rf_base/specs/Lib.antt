@@ -6,6 +6,7 @@ pub mod FileName
 pub mod Input
 pub mod Khz
 pub mod LineBuffer
+pub mod Lines
 pub mod Name
 pub mod Padded
 pub mod Piece

@@ -11,6 +11,7 @@ ghost use Rattle.rf_base.specs.Name as name;
 
 use std::hash::{Hash, Hasher};
 use std::marker::Model;
+use std::str;
 
 /// 1 to 32 bytes, each from `!` to `~` without `;` and `=`.
 #[derive(Clone, Copy, Debug)]
@@ -83,6 +84,14 @@ impl Name {
         ensures form { IsName self.now }
     {
         &self.bytes[..self.len as usize]
+    }
+
+    /// The name as text.
+    pub fn text(&self) -> &str
+        ensures { result.now ≡ self.now }
+    {
+        let bytes = &self.bytes[..self.len as usize];
+        str::from_utf8(bytes).unwrap()
     }
 }
 

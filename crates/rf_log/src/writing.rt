@@ -9,7 +9,6 @@ use crate::line::{Cut, LogLine};
 use rf_base::{Name, NoMemory};
 use rf_terms::{roles, text as kind_text};
 use std::alloc::Global;
-use std::str;
 
 /// The line with its line feed. Its carriers are places among the names, its numbers are at most 999,999,999.
 pub fn line_text(alloc: Global, line: &LogLine, names: &[Name]) -> Result<Vec<u8>, NoMemory>
@@ -134,13 +133,7 @@ fn name_at(names: &[Name], carrier: u32) -> &str
     requires { carrier < length names.now }
     ensures { result.now ≡ spec.name_at names.now carrier }
 {
-    name_text(&names[carrier as usize])
-}
-
-fn name_text(name: &Name) -> &str
-    ensures { result.now ≡ name.now }
-{
-    str::from_utf8(name.bytes()).unwrap()
+    names[carrier as usize].text()
 }
 
 fn side_text(inside: bool) -> &'static str

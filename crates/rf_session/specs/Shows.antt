@@ -18,9 +18,9 @@ use Rattle.rf_text.specs.declared.command.Command.{Command}
 use Rattle.rf_text.specs.declared.command.Command.TheVariants as command
 use Rattle.rf_text.specs.declared.command.UnknownLine.{UnknownLine}
 use Rattle.rf_text.specs.Commands.{command_of}
-use Rattle.rf_text.specs.Csv.{csv_text_of}
+use Rattle.rf_report.specs.Csv.{csv_text_of}
 use Rattle.rf_text.specs.Free.{free_text_of}
-use Rattle.rf_text.specs.Reports.{products_text_of, report_text_of}
+use Rattle.rf_report.specs.Reports.{products_text_of, report_text_of}
 use Rattle.rf_text.specs.Shows.{show_text_of}
 use Rattle.rf_session.specs.declared.file_fault.FileFault.{FileFault}
 use Rattle.rf_session.specs.declared.machine.Stop.{Stop}

@@ -21,12 +21,11 @@ use crate::reply::{Code, Reply, say};
 use crate::scan_line::ScanLine;
 use rf_base::{Failed, Items, Khz, Name, NoMemory, Shelf, Sink, put};
 use rf_editor::{EditFault, Editor, StepFault};
+use rf_report::{csv_text, products_text, report_text};
 use rf_search::MAX_BUDGET;
 use rf_show::{Carrier, Edit};
 use rf_solving::{Found, SolveFault, plan_is_admitted, write_search};
-use rf_text::{
-    Command, UnknownLine, csv_text, free_text, products_text, read_command, report_text, show_text,
-};
+use rf_text::{Command, UnknownLine, free_text, read_command, show_text};
 use std::alloc::Global;
 use std::marker::Model;
 

@@ -8,7 +8,6 @@ ghost use Rattle.rf_solving.specs.Solving as spec;
 use rf_base::{Khz, Name, NoMemory};
 use rf_show::{Show, case_is_asked};
 use std::alloc::Global;
-use std::str;
 
 /// The frequencies that a plan gives the carriers of a show.
 pub(crate) fn plan_freqs(alloc: Global, show: &Show, plan: &[u32]) -> Result<Vec<Khz>, NoMemory>
@@ -57,14 +56,8 @@ pub(crate) fn write_ats(text: &mut String, names: &[Name], freqs: &[Khz]) -> Res
 fn write_at(text: &mut String, name: &Name, khz: Khz) -> Result<(), NoMemory>
     ensures { OnOk result (string_bytes text.new ≡ string_bytes text.old ++ spec.at_line name.now khz) }
 {
-    let name = name_text(name);
+    let name = name.text();
     let khz = khz.get();
     writeln!(text, "at {name} {khz}")?;
     Ok(())
-}
-
-fn name_text(name: &Name) -> &str
-    ensures { result.now ≡ name.now }
-{
-    str::from_utf8(name.bytes()).unwrap()
 }

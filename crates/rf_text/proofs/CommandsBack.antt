@@ -10,7 +10,7 @@ use Rattle.rf_text.specs.declared.command.Command.TheVariants.{Change, Profiles,
 use Rattle.rf_text.specs.Words.{is_word}
 use Rattle.rf_text.specs.Operands.{many}
 use Rattle.rf_text.specs.Edits.{edit_by, exclusion_by, setup_by}
-use Rattle.rf_text.specs.Lines.{joined}
+use Rattle.rf_base.specs.Lines.{joined}
 use Rattle.rf_text.specs.Commands.{command_by, command_of, command_with}
 use Rattle.rf_text.specs.CommandTexts.{command_text_of, command_words}
 use Rattle.rf_text.specs.Verbs.{verb_of}

@@ -1,12 +1,10 @@
 pub mod CarriersMade
 pub mod CommandsBack
 pub mod CommandsSaid
-pub mod CsvLemmas
 pub mod DecimalsBack
 pub mod LineLemmas
 pub mod LinesRead
 pub mod MadeLemmas
-pub mod NameLemmas
 pub mod OperandLemmas
 pub mod OperandsBack
 pub mod PlaceLemmas

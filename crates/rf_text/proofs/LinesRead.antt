@@ -21,7 +21,7 @@ use Rattle.rf_show.specs.Show.{ShowData, first_show, has_zone, is_narrow, is_sca
 use Rattle.rf_text.specs.declared.command.Command.{Command}
 use Rattle.rf_text.specs.Commands.{command_in, command_with}
 use Rattle.rf_text.specs.CommandTexts.{command_text_of, command_words}
-use Rattle.rf_text.specs.Lines.{joined}
+use Rattle.rf_base.specs.Lines.{joined}
 use Rattle.rf_text.specs.ShowLaw.{HotPointsOf, IsBan, IsCarrier, IsProfile, IsScan, IsShowOver, LinesMakeShow, after_command, after_lines}
 use Rattle.rf_text.specs.Shows.{at_lines, carrier_lines, couple_lines, coupling, couplings_of, lock_lines, profile_lines, range_line, ranges_lines, scan_line, show_lines, time_line, zone_line, zone_name, ban_line}
 use Rattle.rf_text.specs.Words.{is_word}

@@ -18,7 +18,7 @@ use Rattle.rf_profiles.specs.declared.profile.Profile.{Profile}
 use Rattle.rf_show.specs.Query.{is_allowed, profile_of}
 use Rattle.rf_show.specs.Show.{ShowData}
 use Rattle.rf_text.specs.Free.{IsNextRun, blocks, khz_at, run_line, runs}
-use Rattle.rf_text.specs.Lines.{line_of}
+use Rattle.rf_base.specs.Lines.{line_of}
 
 -- the numbers from a on, in two parts
 pub range_parts : (a m n s b : ℕ) → s ≡ m + n → b ≡ a + m → range_with_len a s ≡ range_with_len a m ++ range_with_len b n

@@ -3,7 +3,7 @@ use Rattle.std.proofs.Common.{◌≡◌, ◌++◌, ◌∙◌, ℕ, List, [], ◌
 use Rattle.std.proofs.lemmas.Bool.{and_parts}
 use Rattle.std.proofs.lemmas.Bool.Decides.{nat_tests}
 use Rattle.std.specs.List.{list_all, slice_split}
-use Rattle.rf_text.specs.Lines.{joined, spaced}
+use Rattle.rf_base.specs.Lines.{joined, spaced}
 use Rattle.rf_text.specs.Words.{is_space, is_word, is_word_byte, words_of}
 
 not_space : (b : ℕ) → is_word_byte b ≡ true → is_space b ≡ false

@@ -6,7 +6,7 @@ use Rattle.rf_text.specs.declared.verb.Verb.TheVariants as verb
 use Rattle.rf_text.specs.Commands.{command_of}
 use Rattle.rf_text.specs.Decimals.{decimal_text}
 use Rattle.rf_text.specs.EditTexts.{edit_words}
-use Rattle.rf_text.specs.Lines.{joined}
+use Rattle.rf_base.specs.Lines.{joined}
 use Rattle.rf_text.specs.Separators.{sep_text}
 use Rattle.rf_text.specs.Verbs.{text_of}
 

@@ -3,7 +3,7 @@ use Rattle.std.specs.Prelude.{ℕ, List, [], ◌∷◌, Option, None, Some, map,
 use Rattle.rf_show.specs.declared.edit.Edit.{Edit}
 use Rattle.rf_show.specs.declared.edit.Edit.TheVariants as edit
 use Rattle.rf_text.specs.declared.verb.Verb.TheVariants as verb
-use Rattle.rf_text.specs.Lines.{joined}
+use Rattle.rf_base.specs.Lines.{joined}
 use Rattle.rf_text.specs.Verbs.{text_of}
 
 -- the word of a zone, where one is named

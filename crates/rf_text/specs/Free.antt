@@ -6,7 +6,7 @@ use Rattle.rf_profiles.specs.Channels.{channels}
 use Rattle.rf_profiles.specs.Range.{Span, frequencies}
 use Rattle.rf_show.specs.Show.{ShowData}
 use Rattle.rf_show.specs.Query.{channel_of, is_allowed, profile_of}
-use Rattle.rf_text.specs.Lines.{line_of}
+use Rattle.rf_base.specs.Lines.{line_of}
 
 -- the numbers of the channels of each range, where those of the first begin at `from`
 abbrev pub blocks : ℕ → List Span → List (List ℕ)

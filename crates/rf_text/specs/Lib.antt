@@ -1,13 +1,10 @@
 pub mod CommandTexts
 pub mod Commands
-pub mod Csv
 pub mod Decimals
 pub mod EditTexts
 pub mod Edits
 pub mod Free
-pub mod Lines
 pub mod Operands
-pub mod Reports
 pub mod Separators
 pub mod ShowLaw
 pub mod Shows

@@ -14,7 +14,7 @@ use Rattle.rf_text.specs.declared.command.Command.{Command}
 use Rattle.rf_text.specs.declared.command.Command.TheVariants.{Change, Scan}
 use Rattle.rf_text.specs.declared.command_lines.CommandLines.{CommandLines}
 use Rattle.rf_text.specs.CommandTexts.{command_text_of}
-use Rattle.rf_text.specs.Lines.{line_of}
+use Rattle.rf_base.specs.Lines.{line_of}
 
 -- ---- zones
 

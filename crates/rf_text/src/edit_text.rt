@@ -1,9 +1,8 @@
 ghost use Rattle.std.specs.Prelude.{◌≡◌, ◌++◌, ◌∷◌, [], OnOk, map, decimal, string_bytes};
-ghost use Rattle.rf_text.specs.Lines.{joined, spaced};
+ghost use Rattle.rf_base.specs.Lines.{joined, spaced};
 ghost use Rattle.rf_text.specs.EditTexts as spec;
 ghost use Rattle.rf_text.specs.Verbs.{text_of};
 
-use crate::line::name_text;
 use crate::verb::Verb;
 use rf_base::{Name, NoMemory};
 use rf_show::Edit;
@@ -83,7 +82,7 @@ pub(crate) fn write_named(text: &mut String, verb: Verb, name: &Name) -> Result<
     ensures { OnOk result (string_bytes text.new ≡ string_bytes text.old ++ joined (text_of verb ∷ name.now ∷ [])) }
 {
     let verb = verb.text();
-    let name = name_text(name);
+    let name = name.text();
     write!(text, "{verb} {name}")?;
     Ok(())
 }
@@ -110,7 +109,7 @@ fn write_zone(text: &mut String, zone: &Option<Name>) -> Result<(), NoMemory>
 pub(crate) fn write_name(text: &mut String, name: &Name) -> Result<(), NoMemory>
     ensures { OnOk result (string_bytes text.new ≡ string_bytes text.old ++ spaced (name.now ∷ [])) }
 {
-    let name = name_text(name);
+    let name = name.text();
     write!(text, " {name}")?;
     Ok(())
 }

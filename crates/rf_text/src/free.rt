@@ -2,7 +2,7 @@ ghost use Rattle.std.specs.Prelude.{◌≡◌, ◌++◌, ◌∷◌, [], ◌+◌,
 ghost use Rattle.std.specs.List.{flat_map, range_with_len};
 ghost use Rattle.rf_show.specs.Query.{is_allowed};
 ghost use Rattle.rf_text.specs.Free as spec;
-ghost use Rattle.rf_text.specs.Lines.{line_of};
+ghost use Rattle.rf_base.specs.Lines.{line_of};
 
 use rf_base::NoMemory;
 use rf_show::Show;

@@ -2,7 +2,7 @@ ghost use Rattle.std.specs.Prelude.{◌≡◌, ◌++◌, ◌∷◌, [], IfOk, On
 ghost use Rattle.rf_text.specs.CommandTexts as spec;
 ghost use Rattle.rf_text.specs.Commands.{command_of};
 ghost use Rattle.rf_text.specs.Decimals.{decimal_text};
-ghost use Rattle.rf_text.specs.Lines.{joined, spaced};
+ghost use Rattle.rf_base.specs.Lines.{joined, spaced};
 ghost use Rattle.rf_text.specs.Separators.{sep_text};
 ghost use Rattle.rf_text.specs.Verbs.{text_of};
 

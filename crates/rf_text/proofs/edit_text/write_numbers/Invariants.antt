@@ -1,6 +1,6 @@
 use Rattle.std.proofs.Common.{◌≡◌, ◌++◌, map, take, string_bytes}
 use Rattle.std.specs.Prelude.{decimal}
-use Rattle.rf_text.specs.Lines.{spaced}
+use Rattle.rf_base.specs.Lines.{spaced}
 use Rattle.rf_text.proofs.edit_text.write_numbers.Given as goal
 
 abbrev pub invariant-loop-number : goal.invariant-loop-number

@@ -1,0 +1,3 @@
+pub mod Csv
+pub mod Names
+pub mod Reports

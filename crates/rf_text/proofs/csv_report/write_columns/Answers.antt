@@ -1,4 +1,0 @@
-use Rattle.rf_text.proofs.csv_report.write_columns.Goals as goal
-
-pub returns : goal.returns
-returns c = rw c.in_ok-row.ensures at c.write_row.ensures
