@@ -21,5 +21,3 @@ pub use show_law::lines_make_show;
 pub use show_lines::show_text;
 pub use writing::command_text;
 
-#[cfg(test)]
-mod tests;
