@@ -1,19 +1,16 @@
 -- Bytes that are text.
-use Rattle.std.proofs.Common.{◌<◌, ℕ, Bool, true, false, List, [], ◌∷◌, ◌&&◌, IsTrue, Result, Ok, Err, refl}
+use Rattle.std.proofs.Common.{◌<◌, ℕ, Bool, List, [], ◌∷◌, IsTrue, Result, Ok, Err, refl}
+use Rattle.std.proofs.lemmas.Bool.{and_parts}
 use Rattle.std.specs.List.{list_all}
 use Rattle.std.specs.Result.{IsOk, MatchResult}
 use Rattle.std.specs.Str.{IsAscii, IsUtf8}
 use Rattle.std.proofs.lemmas.Str.{IsUtf8-from_ascii}
 use Rattle.std.proofs.lemmas.Str.Ascii.{IsAscii-nil, IsAscii-cons}
 
-parts : (a b : Bool) → IsTrue (a && b) → IsTrue a × IsTrue b
-parts true b v = (tt, v)
-parts false b v = absurd v
-
 low : (test : ℕ → Bool) → ((b : ℕ) → IsTrue (test b) → b < 128) → (bytes : List ℕ) → IsTrue (list_all test bytes) → IsAscii bytes
 low test below [] v = IsAscii-nil
 low test below (b ∷ more) v =
-    let both = parts (test b) (list_all test more) v in
+    let both = and_parts (test b) (list_all test more) v in
     IsAscii-cons b more (below b both.0) (low test below more both.1)
 
 -- bytes are text where each passes a test that only bytes below 128 pass
