@@ -1,7 +1,7 @@
 use crate::word::Word;
 
 /// What the words of the command line ask for.
-#[derive(Debug, Drop)]
+#[derive(Drop)]
 pub enum Asked {
     /// A session over the input.
     Session,
