@@ -27,6 +27,3 @@ pub use report::report_text;
 pub use show_law::lines_make_show;
 pub use show_lines::show_text;
 pub use writing::command_text;
-
-#[cfg(test)]
-mod tests;
