@@ -12,6 +12,3 @@ mod rule;
 mod walk;
 
 pub use walk::check;
-
-#[cfg(test)]
-mod tests;

@@ -3,8 +3,6 @@
 
 mod analysed;
 mod editor;
-#[cfg(test)]
-mod tests;
 mod walk;
 
 pub use analysed::EditFault;

@@ -7,8 +7,6 @@ mod file;
 mod profile;
 mod range;
 mod table;
-#[cfg(test)]
-mod tests;
 
 pub use channels::{Channels, ChannelsFault};
 pub use fault::{Field, ProfilesFault};

@@ -16,8 +16,6 @@ mod product_list;
 mod search;
 mod sources;
 mod tally;
-#[cfg(test)]
-mod tests;
 
 pub use analysis::{Analysis, analyse};
 pub use conflict::Conflict;

@@ -6,8 +6,6 @@ mod field;
 mod hot;
 mod point;
 mod scan;
-#[cfg(test)]
-mod tests;
 
 pub use fault::ScanFault;
 pub use hot::hot_points;

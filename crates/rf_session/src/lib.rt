@@ -15,10 +15,3 @@ mod top;
 mod words;
 
 pub use top::run;
-
-#[cfg(test)]
-mod check_tests;
-#[cfg(test)]
-mod saved_tests;
-#[cfg(test)]
-mod tests;

@@ -20,4 +20,3 @@ pub use free::free_text;
 pub use show_law::lines_make_show;
 pub use show_lines::show_text;
 pub use writing::command_text;
-

@@ -8,6 +8,3 @@ mod words;
 pub use asked::Asked;
 pub use word::Word;
 pub use words::{WordsFault, read_words};
-
-#[cfg(test)]
-mod tests;
