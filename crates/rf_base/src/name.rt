@@ -13,7 +13,7 @@ use std::hash::{Hash, Hasher};
 use std::marker::Model;
 
 /// 1 to 32 bytes, each from `!` to `~` without `;` and `=`.
-#[derive(Clone, Copy, Debug)]
+#[derive(Clone, Copy)]
 pub struct Name {
     len: u8,
     bytes: [u8; 32],
