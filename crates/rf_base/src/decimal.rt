@@ -5,7 +5,7 @@ ghost use Rattle.std.specs.Str.Parse.{digits_value, starts_with_minus, without_l
 ghost use Rattle.rf_base.specs.Decimal as spec;
 
 /// A number in billionths.
-#[derive(Clone, Copy, Debug, PartialEq, Eq, PartialOrd, Ord)]
+#[derive(Clone, Copy, PartialEq, Eq, PartialOrd, Ord)]
 pub struct Decimal(pub i64);
 
 /// The decimal that a word writes.

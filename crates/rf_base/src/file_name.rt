@@ -8,7 +8,7 @@ use std::marker::Model;
 use std::str;
 
 /// The name of a file of the working folder: 1 to 255 bytes, each from `!` to `~`.
-#[derive(Clone, Copy, Debug)]
+#[derive(Clone, Copy)]
 pub struct FileName {
     len: u8,
     bytes: [u8; 255],

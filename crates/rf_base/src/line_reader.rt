@@ -10,7 +10,7 @@ use crate::outside::{NoMemory, Source};
 use std::alloc::Global;
 
 /// What a reader answers.
-#[derive(Clone, Copy, Debug, PartialEq, Eq)]
+#[derive(Clone, Copy, PartialEq, Eq)]
 pub enum Next {
     /// The next line is in `line`.
     Line,

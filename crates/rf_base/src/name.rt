@@ -14,7 +14,7 @@ use std::marker::Model;
 use std::str;
 
 /// 1 to 32 bytes, each from `!` to `~` without `;` and `=`.
-#[derive(Clone, Copy, Debug)]
+#[derive(Clone, Copy)]
 pub struct Name {
     len: u8,
     bytes: [u8; 32],

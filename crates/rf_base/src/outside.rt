@@ -8,11 +8,11 @@ ghost use Rattle.rf_base.specs.Cause.{HasCause};
 use std::alloc::{AllocError, AllocFailed};
 
 /// The outside failed; its count of faults has risen.
-#[derive(Clone, Copy, Debug, PartialEq, Eq)]
+#[derive(Clone, Copy, PartialEq, Eq)]
 pub struct Failed;
 
 /// No memory was found.
-#[derive(Clone, Copy, Debug, PartialEq, Eq)]
+#[derive(Clone, Copy, PartialEq, Eq)]
 pub struct NoMemory;
 
 impl From<AllocError> for NoMemory {

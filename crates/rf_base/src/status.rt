@@ -1,5 +1,5 @@
 /// How a call of the program ended, numbered as the process's exit status.
-#[derive(Clone, Copy, Debug, PartialEq, Eq)]
+#[derive(Clone, Copy, PartialEq, Eq)]
 pub enum Status {
     /// All was done, and nothing was refused.
     Done = 0,

@@ -4,7 +4,7 @@ ghost use Rattle.rf_exclusions.specs.Touched.{is_touched_by_ban};
 use rf_base::{Khz, Name};
 
 /// A stretch of frequencies, in kilohertz, that may not be used in a zone, or in any zone where none is named.
-#[derive(Clone, Copy, Debug)]
+#[derive(Clone, Copy)]
 pub struct Ban {
     /// The lowest banned frequency.
     pub lo: Khz,

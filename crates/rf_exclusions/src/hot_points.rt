@@ -4,7 +4,7 @@ ghost use Rattle.std.specs.List.Sorted.{IsStrictlyIncreasing};
 use std::marker::Model;
 
 /// Frequencies in millihertz, rising and distinct, at which a scan met or passed its threshold.
-#[derive(Debug, Drop)]
+#[derive(Drop)]
 pub struct HotPoints {
     points: Vec<u64>,
 }

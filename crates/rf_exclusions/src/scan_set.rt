@@ -7,7 +7,7 @@ use crate::hot_points::HotPoints;
 use rf_base::{Decimal, FileName, Khz, Name};
 
 /// What stands between the fields of a scan file.
-#[derive(Clone, Copy, Debug, PartialEq, Eq)]
+#[derive(Clone, Copy, PartialEq, Eq)]
 pub enum Sep {
     Comma,
     Semicolon,
@@ -15,7 +15,7 @@ pub enum Sep {
 }
 
 /// A scan of a zone, of which the hot points are kept.
-#[derive(Debug, Drop)]
+#[derive(Drop)]
 pub struct ScanSet {
     /// The file that was read.
     pub file: FileName,

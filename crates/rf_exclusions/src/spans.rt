@@ -8,7 +8,7 @@ use std::alloc::Global;
 use std::marker::Model;
 
 /// A set of numbers: closed intervals in order, disjoint and not touching.
-#[derive(Debug, Drop)]
+#[derive(Drop)]
 pub struct Spans {
     items: Vec<Span>,
 }

@@ -1,7 +1,7 @@
 use rf_terms::Kind;
 
 /// Why indices are removed from a box.
-#[derive(Clone, Copy, Debug, PartialEq, Eq)]
+#[derive(Clone, Copy, PartialEq, Eq)]
 pub enum Hint {
     /// By the earlier nogood line of that number. The first line of a log has number 1.
     Earlier {

@@ -3,7 +3,7 @@ use crate::hint::Hint;
 use rf_base::Items;
 
 /// How a branch line cuts: at one index, or after it.
-#[derive(Clone, Copy, Debug, PartialEq, Eq)]
+#[derive(Clone, Copy, PartialEq, Eq)]
 pub enum Cut {
     /// The left side is the index alone.
     Fix,

@@ -28,7 +28,7 @@ impl Model for Log {
 }
 
 /// Why no log was read.
-#[derive(Clone, Copy, Debug, PartialEq, Eq)]
+#[derive(Clone, Copy, PartialEq, Eq)]
 pub enum LogText {
     /// The first line that is outside the grammar, the first line of a text being 1.
     BadLine { line: u32 },

@@ -1,5 +1,5 @@
 /// Why a line is invalid, in the order in which causes are asked.
-#[derive(Clone, Copy, Debug, PartialEq, Eq)]
+#[derive(Clone, Copy, PartialEq, Eq)]
 pub enum Cause {
     /// The tree was closed before the line.
     Closed,
@@ -18,7 +18,7 @@ pub enum Cause {
 }
 
 /// How a log is judged.
-#[derive(Clone, Copy, Debug, PartialEq, Eq)]
+#[derive(Clone, Copy, PartialEq, Eq)]
 pub enum Verdict {
     /// Every line is valid and the tree is closed.
     Closed,

@@ -7,7 +7,7 @@ use rf_base::Khz;
 use std::marker::Model;
 
 /// Why a range isn't added.
-#[derive(Clone, Copy, Debug, PartialEq, Eq)]
+#[derive(Clone, Copy, PartialEq, Eq)]
 pub enum ChannelsFault {
     /// It doesn't start above the last range's end.
     NotRising,
@@ -19,7 +19,7 @@ pub enum ChannelsFault {
 
 /// The channels of a profile: the frequencies of its ranges, one to eight, in rising order, and at most 65,536 of them.
 /// They are numbered from 0.
-#[derive(Clone, Copy, Debug)]
+#[derive(Clone, Copy)]
 pub struct Channels {
     ranges: [Range; Channels::MAX_RANGES],
     len: u8,

@@ -8,7 +8,7 @@ use rf_base::Name;
 use rf_terms::{Kind, Margin, asks};
 
 /// How far an intermodulation product must stay from a victim of this profile, in kilohertz. A margin of 0 asks nothing.
-#[derive(Clone, Copy, Debug)]
+#[derive(Clone, Copy)]
 pub struct Margins {
     /// Of order 3, from two carriers.
     pub m2t3: u32,
@@ -21,7 +21,7 @@ pub struct Margins {
 }
 
 /// What transmitters of one make have in common.
-#[derive(Clone, Copy, Debug)]
+#[derive(Clone, Copy)]
 pub struct Profile {
     /// Its name among the profiles of a show.
     pub name: Name,

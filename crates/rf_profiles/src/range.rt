@@ -7,7 +7,7 @@ use std::marker::Model;
 
 /// The frequencies `from`, `from + step` and so on that are at most `to`, in kilohertz. Each number is from 1 to
 /// 10,000,000, and `from` is at most `to`.
-#[derive(Clone, Copy, Debug)]
+#[derive(Clone, Copy)]
 pub struct Range {
     from: u32,
     to: u32,

@@ -1,5 +1,6 @@
 use Rattle.std.proofs.Common.{Bor, ◌≡◌, ◌<◌, ◌≤◌, ◌+◌, ◌-◌, ◌++◌, ◌∷◌, [], ℕ, suc, List, true, false, length, Option, Some, None, Result, Ok, Err, arith, refl, add-one, ◌∙◌, ap, inl}
-use Rattle.std.specs.Prelude.{nat_lt}
+use Rattle.std.specs.Prelude.{nat_lt, IfErr}
+use Rattle.std.specs.Result.{IsErrAnd}
 use Rattle.std.proofs.lemmas.Bool.Decides.{nat_tests}
 use Rattle.csv.specs.Machine.{ends_at_end}
 use Rattle.csv.specs.Reading.{Ready, ReadRecord, RowStep, records_from, source_of, strip_bom}
@@ -11,6 +12,7 @@ use Rattle.csv.specs.declared.reader.Trim.TheVariants as trims
 use Rattle.rf_scan.specs.Scan.{Fields, config, is_passed_over, point_of, scan_from, scan_of}
 use Rattle.rf_exclusions.specs.declared.scan_set.Sep.{Sep}
 use Rattle.rf_scan.specs.declared.point.Point.{Point}
+use Rattle.rf_scan.specs.declared.fault.ScanFault.{ScanFault}
 use Rattle.rf_scan.specs.declared.fault.ScanFault.TheVariants.{BadRecord, Many}
 use Rattle.rf_scan.proofs.RecordLemmas.{read_more, read_none, strip_bom_le}
 
@@ -85,32 +87,53 @@ advanced sep bytes a b left left2 number points x p r first some =
       scan = p.scan ∙ ap (scan_from (number + 1) points) (one.next p.at.fuel ∙ ap (λ (n : ℕ). fields_of x ∷ records_from (config sep) n b.state z) e);
     }
 
-pub passed_over : (sep : Sep) (bytes : List ℕ) (rdr : Reader (Bor (List ℕ))) (left number : ℕ) (points : List Point) (fields : Fields)
-    → Advanced sep bytes rdr left number points fields → is_passed_over (length points) fields ≡ true → Progress sep bytes rdr left (number + 1) points
+-- what a record comes to, before those that follow it
+pub passed_over : (number : ℕ) (points : List Point) (fields : Fields) (rest : List Fields)
+    → is_passed_over (length points) fields ≡ true → scan_from number points (fields ∷ rest) ≡ scan_from (number + 1) points rest
 unfolding scan_from
-passed_over sep bytes rdr left number points fields a h = record { at = a.at; scan = a.scan ∙ rw h refl }
+passed_over number points fields rest h = rw h refl
 
-pub one_point : (sep : Sep) (bytes : List ℕ) (rdr : Reader (Bor (List ℕ))) (left number : ℕ) (points : List Point) (fields : Fields) (p : Point)
-    → Advanced sep bytes rdr left number points fields → is_passed_over (length points) fields ≡ false → point_of fields ≡ Ok p → length points < 200000
-    → Progress sep bytes rdr left (number + 1) (points ++ p ∷ [])
+pub one_point : (number : ℕ) (points : List Point) (fields : Fields) (p : Point) (rest : List Fields)
+    → is_passed_over (length points) fields ≡ false → point_of fields ≡ Ok p → length points < 200000
+    → scan_from number points (fields ∷ rest) ≡ scan_from (number + 1) (points ++ p ∷ []) rest
 unfolding scan_from
-one_point sep bytes rdr left number points fields p a h ok few =
+one_point number points fields p rest h ok few =
     let t : nat_lt (length points) 200000 ≡ true = grind (arith, nat_tests) in
-    record { at = a.at; scan = a.scan ∙ rw (h, ok, t) refl }
+    rw (h, ok, t) refl
 
-pub bad_record : (sep : Sep) (bytes : List ℕ) (rdr : Reader (Bor (List ℕ))) (left number : ℕ) (points : List Point) (fields : Fields) (k : ℕ)
-    → Advanced sep bytes rdr left number points fields → is_passed_over (length points) fields ≡ false → point_of fields ≡ Err k
-    → scan_of sep bytes ≡ Err (BadRecord (number + 1) k)
+pub bad_record : (number : ℕ) (points : List Point) (fields : Fields) (k : ℕ) (rest : List Fields)
+    → is_passed_over (length points) fields ≡ false → point_of fields ≡ Err k
+    → scan_from number points (fields ∷ rest) ≡ Err (BadRecord number k)
 unfolding scan_from
-bad_record sep bytes rdr left number points fields k a h bad = a.scan ∙ rw (h, bad) refl
+bad_record number points fields k rest h bad = rw (h, bad) refl
 
-pub too_many : (sep : Sep) (bytes : List ℕ) (rdr : Reader (Bor (List ℕ))) (left number : ℕ) (points : List Point) (fields : Fields) (p : Point)
-    → Advanced sep bytes rdr left number points fields → is_passed_over (length points) fields ≡ false → point_of fields ≡ Ok p → 200000 ≤ length points
-    → scan_of sep bytes ≡ Err Many
+pub too_many : (number : ℕ) (points : List Point) (fields : Fields) (p : Point) (rest : List Fields)
+    → is_passed_over (length points) fields ≡ false → point_of fields ≡ Ok p → 200000 ≤ length points
+    → scan_from number points (fields ∷ rest) ≡ Err Many
 unfolding scan_from
-too_many sep bytes rdr left number points fields p a h ok many =
+too_many number points fields p rest h ok many =
     let t : nat_lt (length points) 200000 ≡ false = grind (arith, nat_tests) in
-    a.scan ∙ rw (h, ok, t) refl
+    rw (h, ok, t) refl
+
+-- a record that was taken, and one that was refused
+pub taken : {sep : Sep} {bytes : List ℕ} {rdr : Reader (Bor (List ℕ))} {left number : ℕ} {points : List Point} {fields : Fields} (more : List Point)
+    → Advanced sep bytes rdr left number points fields
+    → ((rest : List Fields) → scan_from (number + 1) points (fields ∷ rest) ≡ scan_from (number + 1 + 1) more rest)
+    → Progress sep bytes rdr left (number + 1) more
+taken {sep = sep} {bytes = bytes} {rdr = rdr} {left = left} {number = number} more a step =
+    record { at = a.at; scan = a.scan ∙ step (records_left sep bytes rdr left (number + 1) a.at) }
+
+pub refused : {sep : Sep} {bytes : List ℕ} {rdr : Reader (Bor (List ℕ))} {left number : ℕ} {points : List Point} {fields : Fields} (e : ScanFault)
+    → Advanced sep bytes rdr left number points fields
+    → ((rest : List Fields) → scan_from (number + 1) points (fields ∷ rest) ≡ Err e)
+    → scan_of sep bytes ≡ Err e
+refused {sep = sep} {bytes = bytes} {rdr = rdr} {left = left} {number = number} e a step =
+    a.scan ∙ step (records_left sep bytes rdr left (number + 1) a.at)
+
+-- a fault that is handed on
+pub handed_on : {A : Type 0} (P : ScanFault → Type 0) (r : Result A ScanFault) (e : ScanFault) → IsErrAnd r (λ x. x ≡ e) → P e → IfErr r P
+handed_on P (Ok x) e h p = tt
+handed_on P (Err x) e h p = rw h p
 
 pub ended : (sep : Sep) (bytes : List ℕ) (a b : Reader (Bor (List ℕ))) (left number : ℕ) (points : List Point) (f : Fields)
     → Progress sep bytes a left number points → ReadRecord known a b false f → scan_of sep bytes ≡ scan_from (number + 1) points []

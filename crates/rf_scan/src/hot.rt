@@ -1,5 +1,6 @@
 ghost use Rattle.std.specs.Prelude.{◌≡◌, ◌↔◌, ℕ, IfOk, Contains};
 ghost use Rattle.std.specs.List.Sorted.{IsStrictlyIncreasing};
+ghost use Rattle.rf_scan.specs.Hot as hot_spec;
 ghost use Rattle.rf_scan.specs.Hot.{hot_frequencies, hot_of};
 
 use crate::point::Point;
@@ -33,9 +34,16 @@ fn hot_frequencies(
 {
     let mut hot = Vec::new(alloc);
     for point in points {
-        if point.level.0 >= threshold.0 {
+        if is_hot(point, threshold) {
             hot.push(point.millihertz)?;
         }
     }
     Ok(hot)
+}
+
+// Whether the level of a point is at or above the threshold.
+fn is_hot(point: &Point, threshold: Decimal) -> bool
+    ensures { result ≡ hot_spec.is_hot threshold point.now }
+{
+    point.level.0 >= threshold.0
 }

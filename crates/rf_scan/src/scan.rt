@@ -1,10 +1,11 @@
-ghost use Rattle.std.specs.Prelude.{◌≡◌, ◌≢◌, ◌≤◌, Ok, Err, IfOk, IfErr, length};
+ghost use Rattle.std.specs.Prelude.{◌≡◌, ◌≢◌, ◌≤◌, ◌+◌, ◌∷◌, List, Ok, Err, IfOk, IfErr, length};
+ghost use Rattle.csv.specs.Records.{fields_of};
 ghost use Rattle.rf_scan.specs.Scan as spec;
 
 use crate::fault::ScanFault;
 use crate::field::{is_passed_over, point_of};
 use crate::point::Point;
-use csv::ReaderBuilder;
+use csv::{ByteRecord, ReaderBuilder};
 use rf_exclusions::Sep;
 use std::alloc::Global;
 
@@ -31,24 +32,33 @@ pub fn read_scan(alloc: Global, bytes: &[u8], sep: Sep) -> Result<Vec<Point>, Sc
             Err(_) => return Err(ScanFault::Memory),
         };
         number += 1;
-        if is_passed_over(points.len(), &row) {
-            continue;
-        }
-        let point = match point_of(&row) {
-            Ok(point) => point,
-            Err(field) => return Err(ScanFault::BadRecord { number, field }),
-        };
-        if points.len() >= MAX_POINTS {
-            return Err(ScanFault::Many);
-        }
-        if points.push(point).is_err() {
-            return Err(ScanFault::Memory);
-        }
+        take_record(&mut points, &row, number)?;
     }
     if points.is_empty() {
         return Err(ScanFault::NoPoints);
     }
     Ok(points)
+}
+
+// Adds the point of a record of this number, unless it is passed over.
+fn take_record(points: &mut Vec<Point>, row: &ByteRecord, number: u32) -> Result<(), ScanFault>
+    ensures taken { IfOk result (λ _. (rest : List spec.Fields) → spec.scan_from number points.old.items (fields_of row.now ∷ rest) ≡ spec.scan_from (number + 1) points.new.items rest) }
+    ensures fault { IfErr result (λ e. e ≢ ScanFault.Memory → (rest : List spec.Fields) → spec.scan_from number points.old.items (fields_of row.now ∷ rest) ≡ Err e) }
+{
+    if is_passed_over(points.len(), row) {
+        return Ok(());
+    }
+    let point = match point_of(row) {
+        Ok(point) => point,
+        Err(field) => return Err(ScanFault::BadRecord { number, field }),
+    };
+    if points.len() >= MAX_POINTS {
+        return Err(ScanFault::Many);
+    }
+    if points.push(point).is_err() {
+        return Err(ScanFault::Memory);
+    }
+    Ok(())
 }
 
 fn separator(sep: Sep) -> u8

@@ -4,7 +4,7 @@ ghost use Rattle.rf_terms.specs.Kinds as table;
 
 /// A kind of rule. Its roles are taken by distinct carriers, and its form is the sum of their frequencies, each times
 /// the coefficient of its role. The last role of every kind but `Spacing` is the victim; the others are its sources.
-#[derive(Clone, Copy, PartialEq, Eq, Debug)]
+#[derive(Clone, Copy, PartialEq, Eq)]
 pub enum Kind {
     /// Two carriers keep their spacing.
     Spacing,
@@ -21,7 +21,7 @@ pub enum Kind {
 }
 
 /// Which number of a profile is a kind's margin.
-#[derive(Clone, Copy, PartialEq, Eq, Debug)]
+#[derive(Clone, Copy, PartialEq, Eq)]
 pub enum Margin {
     /// The channel spacing.
     Spacing,

@@ -4,7 +4,7 @@ ghost use Rattle.std.specs.List.{list_all};
 use std::marker::Model;
 
 /// At most 496 flags, in order.
-#[derive(Clone, Copy, Debug)]
+#[derive(Clone, Copy)]
 pub struct Couplings {
     flags: [bool; 496],
     len: u16,

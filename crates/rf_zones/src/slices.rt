@@ -16,7 +16,7 @@ pub const MAX_CARRIERS: usize = 64;
 
 /// Which carriers are on together: masks of those that are on in a minute. The masks are those of minute 0 and of each minute
 /// in which an interval begins, so that carriers have a common minute exactly where one mask has all their bits.
-#[derive(Debug, Drop)]
+#[derive(Drop)]
 pub struct Slices {
     masks: Vec<Mask>,
 }

@@ -7,7 +7,7 @@ use std::marker::Model;
 
 /// When a carrier is on: at most eight intervals of minutes of the week, in the order in which they were added. Without
 /// intervals it is always on.
-#[derive(Clone, Copy, Debug)]
+#[derive(Clone, Copy)]
 pub struct Times {
     intervals: [(u16, u16); 8],
     len: u8,

@@ -5,7 +5,7 @@ use rf_base::Name;
 use std::marker::Model;
 
 /// At most 32 names, in order.
-#[derive(Clone, Copy, Debug)]
+#[derive(Clone, Copy)]
 pub struct ZoneNames {
     names: [Name; 32],
     len: u8,

@@ -8,7 +8,7 @@ use rf_base::Name;
 use std::marker::Model;
 
 /// The zones of a show, numbered from 0 in the order in which they were added, `main` first; and which of them are coupled.
-#[derive(Clone, Copy, Debug)]
+#[derive(Clone, Copy)]
 pub struct Zones {
     names: ZoneNames,
     couplings: Couplings,

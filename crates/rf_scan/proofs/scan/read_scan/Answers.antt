@@ -1,10 +1,8 @@
-use Rattle.std.proofs.Common.{◌≡◌, ◌<◌, ◌∙◌, true, false, length, Some, arith, rules, refl, ap, inr, Ok, Err}
+use Rattle.std.proofs.Common.{◌≡◌, ◌∙◌, true, false, length, Some, arith, rules, refl, ap, inr}
 use Rattle.std.specs.Prelude.{◌==◌}
-use Rattle.std.specs.Result.{is_ok}
 use Rattle.csv.specs.Reading.{builder_config, builder_names_headers, builder_trim}
-use Rattle.csv.specs.Records.{fields_of}
-use Rattle.rf_scan.specs.Scan.{is_passed_over, point_of, scan_from}
-use Rattle.rf_scan.proofs.ScanLemmas.{started, read_one, read_end, number_fits, passed_over, one_point, bad_record, too_many}
+use Rattle.rf_scan.specs.Scan.{scan_from}
+use Rattle.rf_scan.proofs.ScanLemmas.{started, read_one, read_end, number_fits, taken, refused, handed_on}
 use Rattle.rf_scan.proofs.scan.read_scan.Goals as goal
 
 pub loop-row-init : goal.loop-row-init
@@ -29,39 +27,17 @@ overflow_add-number c =
     let a = read_one c.next.new.self.rdr c.next.new.self.left inv (c.next.ensures.steps inv.at.turns inv.at.trim).0 (c.in-Some.is ∙ ap Some c.in-Ok.is) in
     omega (arith, number_fits a, c.requires)
 
-pub loop-row-preserved-then-is_passed_over : goal.loop-row-preserved-then-is_passed_over
-loop-row-preserved-then-is_passed_over c =
+pub returns-in_err-take_record-clause-fault : goal.returns-in_err-take_record-clause-fault
+returns-in_err-take_record-clause-fault c =
     let inv = c.loop-row.invariant in
     let a = read_one c.next.new.self.rdr c.next.new.self.left inv (c.next.ensures.steps inv.at.turns inv.at.trim).0 (c.in-Some.is ∙ ap Some c.in-Ok.is) in
-    let over : is_passed_over (length c.loop-row.points.items) (fields_of c.in-Ok.row) ≡ true = search rules in
-    passed_over _ _ _ _ _ _ _ a over
-
-pub returns-in-Err-point_of-clause-fault : goal.returns-in-Err-point_of-clause-fault
-returns-in-Err-point_of-clause-fault c _ =
-    let inv = c.loop-row.invariant in
-    let a = read_one c.next.new.self.rdr c.next.new.self.left inv (c.next.ensures.steps inv.at.turns inv.at.trim).0 (c.in-Some.is ∙ ap Some c.in-Ok.is) in
-    let over : is_passed_over (length c.loop-row.points.items) (fields_of c.in-Ok.row) ≡ false = search rules in
-    let bad : point_of (fields_of c.in-Ok.row) ≡ Err c.in-Err-point_of.field = search rules in
-    bad_record _ _ _ _ _ _ _ _ a over bad
-
-pub returns-then-len-ge-MAX_POINTS-clause-fault : goal.returns-then-len-ge-MAX_POINTS-clause-fault
-returns-then-len-ge-MAX_POINTS-clause-fault c _ =
-    let inv = c.loop-row.invariant in
-    let a = read_one c.next.new.self.rdr c.next.new.self.left inv (c.next.ensures.steps inv.at.turns inv.at.trim).0 (c.in-Some.is ∙ ap Some c.in-Ok.is) in
-    let over : is_passed_over (length c.loop-row.points.items) (fields_of c.in-Ok.row) ≡ false = search rules in
-    let ok : point_of (fields_of c.in-Ok.row) ≡ Ok c.in-Ok-point_of.point = search rules in
-    too_many _ _ _ _ _ _ _ _ a over ok (search rules)
+    handed_on _ _ _ c.from_residual.ensures.1 (λ other. refused _ a (c.in_err-take_record.ensures.fault other))
 
 pub loop-row-preserved : goal.loop-row-preserved
 loop-row-preserved c =
     let inv = c.loop-row.invariant in
     let a = read_one c.next.new.self.rdr c.next.new.self.left inv (c.next.ensures.steps inv.at.turns inv.at.trim).0 (c.in-Some.is ∙ ap Some c.in-Ok.is) in
-    let over : is_passed_over (length c.loop-row.points.items) (fields_of c.in-Ok.row) ≡ false = search rules in
-    let ok : point_of (fields_of c.in-Ok.row) ≡ Ok c.in-Ok-point_of.point = search rules in
-    let good : is_ok c.push.result ≡ true = search rules in
-    let items = rw good at c.push.ensures.items in
-    let few : length c.loop-row.points.items < 200000 = search rules in
-    rw items (one_point _ _ _ _ _ _ _ _ a over ok few)
+    taken _ a c.in_ok-take_record.ensures.taken
 
 pub returns-then-is_empty-clause-fault : goal.returns-then-is_empty-clause-fault
 unfolding scan_from
