@@ -101,3 +101,7 @@ pub quiet_kept : {case : Case} {lines : List Line} {a b : Trace} (ks : List Kind
     → IsQuiet case ks p (box_of a) → IsQuiet case ks p (box_of b)
 quiet_kept {case} {lines} {a} {b} ks p kept e quiet =
     subst (λ (has : ℕ → ℕ → Bool). IsQuiet case ks p (members has)) (sym (same_kept kept e)) quiet
+
+-- equal parts make equal wholes
+pub joined : {A B C : Type 0} (f : A → B → C) {a c : A} {b d : B} → a ≡ c → b ≡ d → f a b ≡ f c d
+joined f {a} {c} {b} {d} first second = ap (λ x. f x b) first ∙ ap (f c) second

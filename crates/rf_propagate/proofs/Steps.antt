@@ -1,21 +1,18 @@
 -- Single removals, and what is left to each carrier.
-use Rattle.std.proofs.Common.{◌≡◌, ◌≢◌, ℕ, ◌+◌, ◌<◌, ◌≤◌, ◌==◌, List, [], ◌∷◌, Bool, true, false, not, ◌&&◌, length, refl, sym, ◌∙◌, ap, subst, arith, inl, inr}
-use Rattle.std.specs.Prelude.{Result, Ok, Err, OnOk, OnErr, Option, Some, None, IsTrue, if◌then◌else◌}
+use Rattle.std.proofs.Common.{◌≡◌, ℕ, ◌+◌, ◌<◌, ◌≤◌, List, ◌∷◌, Bool, true, false, length, refl, sym, ◌∙◌, ap, subst, arith, inl, inr}
+use Rattle.std.specs.Prelude.{Result, Ok, Err, OnOk, OnErr, Some, None, if◌then◌else◌}
 use Rattle.std.proofs.lemmas.List.{length-map}
-use Rattle.std.proofs.lemmas.Bool.{cases_Bool, cases_eq, and_parts}
 use Rattle.std.proofs.lemmas.Bool.Decides.{nat_tests}
 use Rattle.rf_log.specs.declared.hint.Hint.TheVariants.{Ban}
-use Rattle.rf_log.specs.Case.{Case, counts_of, is_allowed}
-use Rattle.rf_log.specs.Relations.{IsLiving, IsSettled, IsEmptied, IsAllowedThroughout}
-use Rattle.rf_log.specs.Hints.{Line, line_at, is_barred, effect_of}
+use Rattle.rf_log.specs.Case.{Case, counts_of}
+use Rattle.rf_log.specs.Relations.{IsLiving, IsEmptied}
+use Rattle.rf_log.specs.Hints.{Line, is_barred}
 use Rattle.rf_log.specs.Box.{Box, between, without}
 use Rattle.rf_domain.specs.Sets.{size_of, sizes, has}
 use Rattle.rf_domain.proofs.Counting.{lt_cases}
 use Rattle.rf_trail.specs.declared.entry.Entry.{Entry}
 use Rattle.rf_trail.specs.Trace.{Trace, has_of, box_of}
-use Rattle.rf_trail.proofs.TraceLemmas.{has_size}
-use Rattle.rf_propagate.specs.Laws.{Extends, same, more, IsJustified, Blocks}
-use Rattle.rf_propagate.specs.Strike.{IsBarredAlone}
+use Rattle.rf_propagate.specs.Laws.{Extends, same, more, IsJustified}
 
 if_true : {A : Type 0} (t : Bool) (x : A) → t ≡ true → (if t then Some x else None) ≡ Some x
 if_true t x e = subst (λ (b : Bool). (if b then Some x else None) ≡ Some x) (sym e) refl
@@ -78,17 +75,3 @@ pub emptied_box : (sets : List (List Bool)) (t : Trace) (c : ℕ) → sizes sets
 emptied_box sets t c sized left known none case counts =
     let size : length sets ≡ length (counts_of case) = sym (length-map sets length) ∙ ap length (sized ∙ counts) in
     (omega arith, λ k here. let gone : has_of t.counts t.entries c k ≡ false = sym (ap (λ f. f c k) left) ∙ none k in cc)
-
--- with no kind nothing is struck, and no line held is open
-pub settled_none : (case : Case) (b : ℕ → ℕ → Type 0) → IsSettled case [] b
-settled_none case b c k here struck = let at = struck.among in absurd (omega (arith, at.1))
-
-pub blocks_none : (case : Case) (b : ℕ → ℕ → Type 0) → Blocks case b []
-blocks_none case b = record { each = λ some line among. absurd (omega (arith, among.1)) }
-
--- once the one index that is not allowed is out, all that is left is allowed
-pub allowed_rest : (case : Case) (t : Trace) (carrier k : ℕ) (only : Bool) → IsBarredAlone case carrier k only → t.counts ≡ counts_of case
-    → has_of t.counts t.entries carrier k ≡ false → IsTrue only → IsAllowedThroughout case (box_of t)
-allowed_rest case t carrier k only barred counts gone asked c j here =
-    barred.others asked c j (subst (λ (ns : List ℕ). j < size_of ns c) counts (has_size t.counts t.entries c j here)) (λ same.
-    let there : has_of t.counts t.entries carrier k ≡ true = ap (λ x. has_of t.counts t.entries x k) (sym same.0) ∙ ap (has_of t.counts t.entries c) (sym same.1) ∙ here in cc)

@@ -5,14 +5,10 @@ mod both;
 mod engine;
 mod outcome;
 mod removal;
-mod strike;
-#[cfg(test)]
-mod tests;
 mod theory;
 
 pub use both::Both;
 pub use engine::Engine;
 pub use outcome::{Outcome, outcome_of};
 pub use removal::remove_banned;
-pub use strike::Strike;
 pub use theory::{Grows, Learns, Propagator, Theory};

@@ -7,7 +7,7 @@ ghost use Rattle.rf_trail.specs.Trace.{box_of};
 use rf_trail::Trail;
 
 /// What a propagator answers.
-#[derive(Clone, Copy, Debug, PartialEq, Eq)]
+#[derive(Clone, Copy, PartialEq, Eq)]
 pub enum Outcome {
     /// Each carrier has an index left, and the propagator finds nothing more to remove.
     Quiet,

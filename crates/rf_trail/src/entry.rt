@@ -1,7 +1,7 @@
 use rf_log::Hint;
 
 /// A removal of the indices from `lo` to `hi` of a carrier, with its reason. A decision has none.
-#[derive(Clone, Copy, Debug, PartialEq, Eq)]
+#[derive(Clone, Copy, PartialEq, Eq)]
 pub struct Entry {
     pub carrier: usize,
     pub lo: u32,

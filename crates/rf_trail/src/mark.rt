@@ -1,5 +1,5 @@
 /// How many entries a trail has at some moment.
-#[derive(Clone, Copy, Debug, PartialEq, Eq)]
+#[derive(Clone, Copy, PartialEq, Eq)]
 pub struct Mark {
     pub entries: usize,
 }

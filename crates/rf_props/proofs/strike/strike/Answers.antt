@@ -1,14 +1,18 @@
-use Rattle.std.proofs.Common.{◌≡◌, ◌∙◌, ◌+◌, ◌<◌, ℕ, List, length, take, sym, ap, subst, arith, false, true}
+use Rattle.std.proofs.Common.{◌≡◌, ◌∙◌, ◌+◌, ◌<◌, ℕ, List, length, take, refl, sym, ap, subst, arith, false, true}
 use Rattle.std.specs.Prelude.{insert}
 use Rattle.std.proofs.lemmas.List.Elements.{All-same}
+use Rattle.std.proofs.lemmas.List.{length-map}
 use Rattle.rf_terms.specs.Kinds.{roles_of}
+use Rattle.rf_terms.proofs.FormLemmas.{table-roles}
+use Rattle.rf_domain.specs.Sets.{size_of}
 use Rattle.rf_log.specs.Case.{is_instance, is_among}
 use Rattle.rf_log.specs.declared.hint.Hint.TheVariants.{Rule}
 use Rattle.rf_problem.specs.Problem.{case_of}
 use Rattle.rf_problem.proofs.CaseLemmas.{count_is}
 use Rattle.rf_propagate.specs.Laws.{same}
-use Rattle.rf_props.specs.Sweeps.{AreBroken, IsHarmless}
+use Rattle.rf_props.specs.Sweeps.{left, sole_freq, AreBroken, IsHarmless}
 use Rattle.rf_props.proofs.StrikeLemmas.{known_insert, apart_of, clear_by, clear_other, rows_after, clear_after, rule_is, rule_step, none_left, small_roles}
+use Rattle.rf_props.proofs.CountLemmas.{count_any, counts_length}
 use Rattle.rf_props.proofs.InsertLemmas.{length_insert}
 use Rattle.rf_props.proofs.strike.strike.Goals as goal
 
@@ -102,3 +106,37 @@ returns-clause-clear c =
     let last = c.in-Some.range.1 in
     clear_after (case_of c.args.problem.now) c.args.trail.now c.remove_because.new.self c.args.kind c.args.place c.args.others.now c.args.freqs.now c.args.target first last
     (Rule c.args.kind c.padded.result c.args.place first last) c.requires.counts (known_target c) (apart c) c.requires.fixed (is_broken c) c.remove_because.result c.remove_because.ensures.ok
+
+pub slice_bounds-roles-end : goal.slice_bounds-roles-end
+slice_bounds-roles-end c = omega (arith, ap length c.with_target-all.ensures, length_insert c.args.others.now c.args.place c.args.target, c.requires.others)
+
+pub is_instance-requires-clause-roles : goal.is_instance-requires-clause-roles
+is_instance-requires-clause-roles c = omega (arith, ap length c.with_target-all.ensures, length_insert c.args.others.now c.args.place c.args.target, c.requires.others)
+
+pub broken_range-requires-clause-roles : goal.broken_range-requires-clause-roles
+broken_range-requires-clause-roles c = omega (arith, ap length c.with_target-all.ensures, length_insert c.args.others.now c.args.place c.args.target, c.requires.others)
+
+pub broken_range-requires-clause-freqs : goal.broken_range-requires-clause-freqs
+broken_range-requires-clause-freqs c =
+    omega (arith, ap length c.requires.fixed.known, length-map c.args.others.now (sole_freq (case_of c.args.problem.now) (left c.args.trail.now)), c.requires.others)
+
+pub is_left-requires : goal.is_left-requires
+is_left-requires c = omega (arith, ap length c.requires.counts, counts_length (case_of c.args.problem.now), count_is c.args.problem.now, c.requires.target)
+
+pub padded-requires-clause-few : goal.padded-requires-clause-few
+padded-requires-clause-few c = omega (arith, ap length c.with_target-all.ensures, length_insert c.args.others.now c.args.place c.args.target, c.requires.others, (table-roles c.args.kind).1)
+
+pub remove_because-requires : goal.remove_because-requires
+remove_because-requires c = record {
+  ordered = c.in-Some.ensures.ordered;
+  in_range = omega (arith, c.in-Some.ensures.known, ap (λ ns. size_of ns c.args.target) c.requires.counts, count_any (case_of c.args.problem.now) c.args.target);
+}
+
+pub returns-then-not-is_instance-clause-rows : goal.returns-then-not-is_instance-clause-rows
+returns-then-not-is_instance-clause-rows c = record { each = λ o among. refl }
+
+pub returns-in-None-clause-rows : goal.returns-in-None-clause-rows
+returns-in-None-clause-rows c = record { each = λ o among. refl }
+
+pub returns-then-not-is_left-clause-rows : goal.returns-then-not-is_left-clause-rows
+returns-then-not-is_left-clause-rows c = record { each = λ o among. refl }
