@@ -3,7 +3,5 @@
 
 mod carrier;
 mod problem;
-#[cfg(test)]
-mod tests;
 
 pub use problem::problem_of;

@@ -34,6 +34,3 @@ pub use piece::put;
 pub use real::{FolderShelf, StdSink, StdSource};
 pub use shelf::{Fetch, Shelf};
 pub use status::Status;
-
-#[cfg(test)]
-mod tests;

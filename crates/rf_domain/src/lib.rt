@@ -8,6 +8,3 @@ mod words;
 
 pub use domains::Domains;
 pub use limits::{CARRIER_LIMIT, INDEX_LIMIT};
-
-#[cfg(test)]
-mod tests;

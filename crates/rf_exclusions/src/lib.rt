@@ -6,8 +6,6 @@ mod hot_points;
 mod scan_set;
 mod span;
 mod spans;
-#[cfg(test)]
-mod tests;
 
 pub use ban::{Ban, touched_by_ban};
 pub use hot_points::HotPoints;

@@ -25,6 +25,3 @@ pub use log::{Log, LogText, read_log};
 pub use names::Names;
 pub use verdict::{Cause, Verdict};
 pub use writing::line_text;
-
-#[cfg(test)]
-mod tests;

@@ -6,8 +6,6 @@ mod carrier;
 mod limits;
 mod members;
 mod problem;
-#[cfg(test)]
-mod tests;
 mod together;
 
 pub use limits::{MARGINS, MAX_CHANNELS, MAX_WIDTH};

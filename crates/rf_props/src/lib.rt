@@ -2,8 +2,6 @@
 #![tactic(auto)]
 
 mod bans;
-#[cfg(test)]
-mod closure_tests;
 mod engine;
 mod flags;
 mod instance;
@@ -17,8 +15,6 @@ mod single;
 mod spacing;
 mod strike;
 mod sweep;
-#[cfg(test)]
-mod tests;
 mod theory;
 mod three_source;
 mod two_source;

@@ -17,8 +17,6 @@ mod query;
 mod refusal;
 mod room;
 mod show;
-#[cfg(test)]
-mod tests;
 mod together;
 mod undo;
 mod zone_change;

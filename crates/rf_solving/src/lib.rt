@@ -6,8 +6,6 @@ mod names;
 mod placing;
 mod plan;
 mod solving;
-#[cfg(test)]
-mod tests;
 
 pub use placing::{plan_is_admitted, plan_is_in_khz};
 pub use rf_search::SolveFault;

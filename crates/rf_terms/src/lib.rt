@@ -4,8 +4,6 @@
 
 mod form;
 mod kind;
-#[cfg(test)]
-mod tests;
 mod windows;
 
 pub use form::{broken, value};

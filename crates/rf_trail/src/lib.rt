@@ -6,8 +6,6 @@ mod entry;
 mod mark;
 mod piece;
 mod step;
-#[cfg(test)]
-mod tests;
 mod trail;
 
 pub use entry::Entry;

@@ -3,8 +3,6 @@
 
 mod couplings;
 mod slices;
-#[cfg(test)]
-mod tests;
 mod timed;
 mod times;
 mod zone_names;

@@ -1,0 +1,57 @@
+//! Rules at their margins, and the texts of the rule table.
+use crate::hold::{Broken, hold, told};
+use rf_terms::{Kind, broken, kinds, text, value, window};
+use std::test::Fail;
+
+fn windows() -> Result<(), Broken> {
+    let middle = window(Kind::T3Two, 0, &[500_000, 500_400], 100);
+    let without = window(Kind::T3Two, 0, &[500_000, 500_400], 0);
+    let between = window(Kind::T5Two, 1, &[500_000, 500_001], 1);
+    let single = window(Kind::T5Two, 1, &[500_000, 500_000], 1);
+    hold(&[
+        (
+            middle == Some((500_151, 500_249)),
+            "half of a margin of 100",
+        ),
+        (without.is_none(), "no margin"),
+        (between.is_none(), "no whole number between"),
+        (single == Some((500_000, 500_000)), "one number alone"),
+    ])
+}
+
+fn forms() -> Result<(), Broken> {
+    let off = value(Kind::T3Two, &[500_400, 500_000, 500_900]);
+    let at_margin = broken(Kind::T3Two, &[500_400, 500_000, 500_900], 100);
+    let within = broken(Kind::T3Two, &[500_400, 500_000, 500_875], 100);
+    let without = broken(Kind::T3Two, &[500_400, 500_000, 500_800], 0);
+    hold(&[
+        (off == -100, "twice the first without the others"),
+        (!at_margin, "a form at its margin is not broken"),
+        (within, "a form within its margin is broken"),
+        (!without, "no margin is never broken"),
+    ])
+}
+
+fn kinds_have_their_texts() -> bool {
+    let texts = ["spacing", "2a-b", "a+b-c", "3a-2b", "3a-b-c", "2a+b-2c"];
+    for (i, kind) in kinds().iter().enumerate() {
+        if i >= 6 || text(*kind) != texts[i] {
+            return false;
+        }
+    }
+    kinds().len() == 6
+}
+
+fn all() -> Result<(), Broken> {
+    windows()?;
+    forms()?;
+    hold(&[(
+        kinds_have_their_texts(),
+        "the kinds in the order of the table",
+    )])
+}
+
+#[test]
+fn rules_are_broken_within_their_margins(_rt: HostRuntime) -> Result<(), Fail> {
+    told(all())
+}
