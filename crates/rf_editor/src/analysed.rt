@@ -13,7 +13,7 @@ use std::alloc::Global;
 use std::marker::Model;
 
 /// Why an edit isn't made.
-#[derive(Debug, Drop)]
+#[derive(Drop)]
 pub enum EditFault {
     /// The show refuses it.
     Refused(Refusal),

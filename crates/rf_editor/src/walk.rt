@@ -6,7 +6,7 @@ use crate::analysed::AnalysedShow;
 use rf_show::Undo;
 
 /// Why the history doesn't move.
-#[derive(Debug, Drop)]
+#[derive(Drop)]
 pub enum StepFault {
     /// There is no show in that direction.
     Nothing,
