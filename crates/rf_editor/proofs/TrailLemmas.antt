@@ -1,6 +1,6 @@
-use Rattle.std.proofs.Common.{◌≡◌, List, [], ◌∷◌, length, Option, Some, None, IsSomeAnd, reverse, refl, ap, sym, ◌∙◌, arith}
+use Rattle.std.proofs.Common.{◌≡◌, List, [], ◌∷◌, length, Option, Some, None, IsSomeAnd, reverse, ◌++◌, refl, ap, sym, subst, ◌∙◌, arith}
 use Rattle.std.specs.Option.{option_map_or}
-use Rattle.std.proofs.lemmas.List.{length-reverse}
+use Rattle.std.proofs.lemmas.List.{length-reverse, reverse-append}
 use Rattle.rf_show.specs.declared.undo.Undo.{Undo}
 use Rattle.rf_show.specs.Show.{ShowData}
 use Rattle.rf_show.specs.Taken.{taken}
@@ -37,3 +37,31 @@ undo_none h us s l = (λ e. ap (λ us. undone_to h (stack_trail us s)) e, λ e. 
 
 pub redo_none : (h : History) (us : List Undo) (s : ShowData) → StackLeads us s → (us ≡ [] → redone_to h (stack_trail us s) ≡ None) × (redone_to h (stack_trail us s) ≡ None → us ≡ [])
 redo_none h us s l = (λ e. ap (λ us. redone_to h (stack_trail us s)) e, λ e. stack_empty us s l (redone_none h (stack_trail us s) e))
+
+-- one value more on a stack
+pub pushed : (us : List Undo) (u : Undo) (s t : ShowData) → taken t u ≡ Some s → stack_trail (us ++ u ∷ []) t ≡ s ∷ stack_trail us s
+pushed us u s t h =
+    ap (λ us. trail us t) (reverse-append us (u ∷ [])) ∙ ap (λ o. option_map_or (λ s. s ∷ trail (reverse us) s) o []) h
+
+pub pushed_leads : (us : List Undo) (u : Undo) (s t : ShowData) → taken t u ≡ Some s → StackLeads us s → StackLeads (us ++ u ∷ []) t
+pushed_leads us u s t h l =
+    subst (λ (us : List Undo). AllLead us t) (sym (reverse-append us (u ∷ [])))
+    (subst (λ (o : Option ShowData). IsSomeAnd o (λ s. AllLead (reverse us) s)) (sym h) l)
+
+-- one value less on a stack
+pub popped_leads : (us : List Undo) (u : Undo) (s t : ShowData) → taken t u ≡ Some s → StackLeads (us ++ u ∷ []) t → StackLeads us s
+popped_leads us u s t h l =
+    subst (λ (o : Option ShowData). IsSomeAnd o (λ s. AllLead (reverse us) s)) h
+    (subst (λ (us : List Undo). AllLead us t) (reverse-append us (u ∷ [])) l)
+
+-- another value on a stack that leads to the same show
+pub replaced : (us : List Undo) (u v : Undo) (t : ShowData) → taken t v ≡ taken t u → stack_trail (us ++ v ∷ []) t ≡ stack_trail (us ++ u ∷ []) t
+replaced us u v t h =
+    ap (λ us. trail us t) (reverse-append us (v ∷ [])) ∙ ap (λ o. option_map_or (λ s. s ∷ trail (reverse us) s) o []) h
+    ∙ sym (ap (λ us. trail us t) (reverse-append us (u ∷ [])))
+
+pub replaced_leads : (us : List Undo) (u v : Undo) (t : ShowData) → taken t v ≡ taken t u → StackLeads (us ++ u ∷ []) t → StackLeads (us ++ v ∷ []) t
+replaced_leads us u v t h l =
+    subst (λ (us : List Undo). AllLead us t) (sym (reverse-append us (v ∷ [])))
+    (subst (λ (o : Option ShowData). IsSomeAnd o (λ s. AllLead (reverse us) s)) (sym h)
+    (subst (λ (us : List Undo). AllLead us t) (reverse-append us (u ∷ [])) l))

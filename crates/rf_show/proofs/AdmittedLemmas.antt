@@ -162,7 +162,7 @@ edited_kept s (Place ats) k ok h =
     carriers_only s _ k (place_kept s.profiles s.zones s.carriers ats k.carriers none.1.0)
 
 -- a step leads where it fits, and to a show
-leads_to : (t s : ShowData) (u : Step) → step_fits t u ≡ true → stepped t u ≡ s → is_show s ≡ true → leads t u ≡ Some s
+pub leads_to : (t s : ShowData) (u : Step) → step_fits t u ≡ true → stepped t u ≡ s → is_show s ≡ true → leads t u ≡ Some s
 leads_to t s u fit is shown =
     let ok : (step_fits t u && is_show (stepped t u)) ≡ true = and_true _ _ fit (ap is_show is ∙ shown) in
     ap (λ b. cond b (Some (stepped t u)) None) ok ∙ ap Some is

@@ -27,6 +27,14 @@ led : (b : Bool) (s : ShowData) → IsSome (cond b (Some s) None) → b ≡ true
 led true s h = refl
 led false s h = cc
 
+led_to : (b : Bool) (s t : ShowData) → IsSome (cond b (Some s) None) → t ≡ s → cond b (Some s) None ≡ Some t
+led_to true s t h e = ap Some (sym e)
+led_to false s t h e = cc
+
+-- a step that leads somewhere leads to the show after it
+pub leads_there : (s t : ShowData) (u : Step) → IsSome (leads s u) → t ≡ stepped s u → leads s u ≡ Some t
+leads_there s t u h e = led_to (step_fits s u && is_show (stepped s u)) (stepped s u) t h e
+
 -- where a step leads, there is a show
 pub led_shown : (s : ShowData) (u : Step) → IsSome (leads s u) → is_show (stepped s u) ≡ true
 led_shown s u h = (both_true _ _ (led (step_fits s u && is_show (stepped s u)) (stepped s u) h)).1

@@ -2,7 +2,7 @@ use rf_base::{Khz, Name};
 use rf_zones::{Timed, Times};
 
 /// A wireless microphone or an in-ear monitor.
-#[derive(Clone, Copy, Debug)]
+#[derive(Clone, Copy)]
 pub struct Carrier {
     /// Its name among the carriers of a show.
     pub name: Name,

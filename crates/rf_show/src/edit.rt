@@ -3,7 +3,7 @@ use rf_exclusions::{HotPoints, Sep};
 use rf_profiles::Profile;
 
 /// A change of a show. Frequencies, spacings and widths are in kilohertz, times in minutes of the week.
-#[derive(Debug, Drop)]
+#[derive(Drop)]
 pub enum Edit {
     /// A profile of one range: from, to, step, spacing, half width and the margins in their order. Taken; Number where
     /// they make no profile; Full at 64 profiles.

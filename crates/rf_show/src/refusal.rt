@@ -1,5 +1,5 @@
 /// Why an edit is refused. Where several reasons hold, the first in this order is the answer.
-#[derive(Clone, Copy, Debug, PartialEq, Eq)]
+#[derive(Clone, Copy, PartialEq, Eq)]
 pub enum Refusal {
     /// A profile, a zone or a carrier that it names isn't there.
     Unknown,

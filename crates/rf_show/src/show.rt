@@ -9,12 +9,12 @@ use crate::carrier::Carrier;
 use crate::change::{Change, make_change};
 use crate::edit::Edit;
 use crate::find::zone_number;
-use crate::frequencies::swap_frequencies;
+use crate::frequencies::change_frequencies;
 use crate::refusal::Refusal;
 use crate::undo::{Step, Undo};
 use crate::zone_change::{ZoneChange, change_zones};
 use crate::{admit, carrier_steps, exclusion_steps, profile_steps};
-use rf_base::{Items, Khz, NoMemory};
+use rf_base::{Khz, NoMemory};
 use rf_exclusions::{Ban, ScanSet};
 use rf_profiles::{Profile, Range};
 use rf_zones::Zones;
@@ -23,7 +23,7 @@ use std::marker::Model;
 
 /// A show: profiles, zones, carriers, bans and scans, each in the order in which they were added, with room for all that
 /// the limits allow.
-#[derive(Debug, Drop)]
+#[derive(Drop)]
 pub struct Show {
     profiles: Vec<Profile>,
     zones: Zones,
@@ -80,7 +80,9 @@ impl Show {
     pub fn admits(&self, edit: &Edit) -> Result<(), Refusal>
         ensures { result ≡ ok_unless (refusal self.now edit.now) }
     {
-        let (profiles, zones, carriers) = (&self.profiles, &self.zones, &self.carriers);
+        let profiles = self.profiles();
+        let zones = self.zones();
+        let carriers = self.carriers();
         match edit {
             Edit::AddProfile { name, numbers } => admit::new_profile(profiles, *name, numbers),
             Edit::AddProfiles { list } => admit::new_profiles(profiles, list.as_slice()),
@@ -103,14 +105,14 @@ impl Show {
             Edit::Always { name } | Edit::Unlock { name } => admit::named(carriers, *name),
             Edit::SetAt { name, khz } => admit::frequency(carriers, *name, *khz),
             Edit::Lock { name } => admit::lock(carriers, *name),
-            Edit::AddBan { lo, hi, zone } => admit::new_ban(zones, &self.bans, *lo, *hi, *zone),
+            Edit::AddBan { lo, hi, zone } => admit::new_ban(zones, self.bans(), *lo, *hi, *zone),
             Edit::Unban { number } => admit::numbered(self.bans.len(), *number),
             Edit::AddScan {
                 zone,
                 threshold,
                 width,
                 ..
-            } => admit::new_scan(zones, &self.scans, *zone, *threshold, *width),
+            } => admit::new_scan(zones, self.scans(), *zone, *threshold, *width),
             Edit::Unscan { number } => admit::numbered(self.scans.len(), *number),
             Edit::Place { at } => admit::place(carriers, at.as_slice()),
         }
@@ -136,7 +138,9 @@ impl Show {
         ensures there { stepped self.now result ≡ edited self.now edit }
         ensures shown { is_show self.now ≡ true }
     {
-        let (profiles, zones, carriers) = (&self.profiles, &self.zones, &self.carriers);
+        let profiles = self.profiles();
+        let zones = self.zones();
+        let carriers = self.carriers();
         match edit {
             Edit::AddProfile { name, numbers } => {
                 Step::Profiles(profile_steps::with_profile(profiles, name, &numbers))
@@ -180,9 +184,9 @@ impl Show {
                 Step::Carriers(carrier_steps::with_lock(carriers, name, false))
             }
             Edit::AddBan { lo, hi, zone } => {
-                Step::Bans(exclusion_steps::with_ban(&self.bans, lo, hi, zone))
+                Step::Bans(exclusion_steps::with_ban(self.bans(), lo, hi, zone))
             }
-            Edit::Unban { number } => Step::Bans(exclusion_steps::removal(&self.bans, number)),
+            Edit::Unban { number } => Step::Bans(exclusion_steps::removal(self.bans(), number)),
             Edit::AddScan {
                 file,
                 sep,
@@ -199,9 +203,9 @@ impl Show {
                     width,
                     hot,
                 };
-                Step::Scans(exclusion_steps::with_scan(&self.scans, scan))
+                Step::Scans(exclusion_steps::with_scan(self.scans(), scan))
             }
-            Edit::Unscan { number } => Step::Scans(exclusion_steps::removal(&self.scans, number)),
+            Edit::Unscan { number } => Step::Scans(exclusion_steps::removal(self.scans(), number)),
             Edit::Place { at } => Step::Frequencies(at),
         }
     }
@@ -220,9 +224,7 @@ impl Show {
             Step::Bans(change) => Step::Bans(make_change(&mut self.bans, change)),
             Step::Scans(change) => Step::Scans(make_change(&mut self.scans, change)),
             Step::Frequencies(ats) => {
-                let mut ats = ats.into_vec();
-                swap_frequencies(&mut self.carriers, &mut ats);
-                Step::Frequencies(Items::from_vec(ats))
+                Step::Frequencies(change_frequencies(&mut self.carriers, ats))
             }
         };
         Undo { step }

@@ -7,7 +7,7 @@ use rf_profiles::Profile;
 use std::marker::Model;
 
 /// What takes a show back to the one before an edit.
-#[derive(Debug, Drop)]
+#[derive(Drop)]
 pub struct Undo {
     pub(crate) step: Step,
 }
@@ -21,7 +21,7 @@ impl Model for Undo {
 }
 
 /// A change of one part of a show, which another one takes back.
-#[derive(Debug, Drop)]
+#[derive(Drop)]
 pub enum Step {
     /// Of the profiles.
     Profiles(Change<Profile>),

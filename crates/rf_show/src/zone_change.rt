@@ -6,7 +6,7 @@ use rf_base::Name;
 use rf_zones::Zones;
 
 /// A change of the zones, which another one takes back.
-#[derive(Debug, Drop)]
+#[derive(Drop)]
 pub enum ZoneChange {
     /// A zone at the end, coupled with none.
     PutZone { name: Name },
