@@ -3,7 +3,7 @@ use Rattle.std.proofs.Common.{◌≡◌, ℕ, zero, suc, ◌+◌, ◌<◌, List,
 use Rattle.std.specs.Prelude.{Option, Some, None, if◌then◌else◌}
 use Rattle.std.specs.List.{All, list_all}
 use Rattle.std.proofs.lemmas.Bool.{cases_Bool, and_parts, ltb-true, leb-true}
-use Rattle.std.proofs.lemmas.List.{take_more, reverse-append}
+use Rattle.std.proofs.lemmas.List.{length-take-le, take_more, reverse-append}
 use Rattle.std.proofs.lemmas.List.Elements.{All-nil, All-cons, All-append}
 use Rattle.rf_log.specs.declared.cond.Cond.{Cond}
 use Rattle.rf_log.specs.declared.line.Cut.{Cut}
@@ -46,6 +46,21 @@ walk_step case lines i d path next v low none after same =
     ap (λ (xs : List LogLine). walk case xs next (drop (i + 1) lines)) (take_more lines i d low)
     ∙ (ap (λ (n : ℕ). walk case (take i lines ++ line ∷ []) next (drop n lines)) e
     ∙ (ap (λ (t : Tree). walk case (take i lines ++ line ∷ []) t (drop (suc i) lines)) (sym after) ∙ (sym opened ∙ same)))
+
+-- a line that is refused ends the walk
+pub walk_refused : (case : Case) (lines : List LogLine) (i : ℕ) (d : LogLine) (tree : Tree) (reason : Cause) (v : Verdict) → i < length lines
+    → cause_of case (take i lines) tree (get_or lines i d) ≡ Some reason
+    → walk case (take i lines) tree (drop i lines) ≡ v → verdict.Refused (i + 1) reason ≡ v
+walk_refused case lines i d tree reason v low some same =
+    let line = get_or lines i d in
+    let F : Option Cause → Verdict = λ o. elim o as (λ _. Verdict) [
+      | None ↦ walk case (take i lines ++ line ∷ []) (tree_after tree line) (drop (suc i) lines)
+      | Some why ↦ verdict.Refused (length (take i lines) + 1) why
+    ] in
+    let opened : walk case (take i lines) tree (drop i lines) ≡ F (Some reason) =
+    ap (λ (xs : List LogLine). walk case (take i lines) tree xs) (drop-cons lines i d low) ∙ ap F some in
+    let first : length (take i lines) ≡ i = length-take-le i lines (omega arith) in
+    ap (λ (n : ℕ). verdict.Refused (n + 1) reason) (sym first) ∙ (sym opened ∙ same)
 
 pub record Passes (case : Case) (line : LogLine) : Type 0 where
   pub known : knows_names case line ≡ true

@@ -19,7 +19,7 @@ use rf_trail::Trail;
 use std::alloc::Global;
 
 /// Why a search gave no answer.
-#[derive(Clone, Copy, Debug, PartialEq, Eq)]
+#[derive(Clone, Copy, PartialEq, Eq)]
 pub enum SolveFault {
     /// The log's output failed.
     LogFault,

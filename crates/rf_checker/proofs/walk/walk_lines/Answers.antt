@@ -1,14 +1,15 @@
-use Rattle.std.proofs.Common.{◌≡◌, ◌<◌, ◌+◌, ◌∙◌, Bool, List, sym, ap, subst, arith, length, take, drop, reverse, get_or, not}
+use Rattle.std.proofs.Common.{◌≡◌, ◌<◌, ◌+◌, ◌∙◌, Bool, List, refl, sym, ap, subst, arith, length, take, drop, reverse, get_or, not}
 use Rattle.std.specs.Prelude.{Some, None, if◌then◌else◌}
 use Rattle.std.specs.List.{All}
 use Rattle.std.proofs.lemmas.List.Sums.{count_by_more_yes, count_by_more_no}
 use Rattle.rf_log.specs.declared.cond.Cond.{Cond}
 use Rattle.rf_log.specs.declared.line.LogLine.{LogLine}
+use Rattle.rf_log.specs.declared.verdict.Cause.TheVariants.{Closed}
 use Rattle.rf_log.specs.Walk.{Tree, walk, cause_of, tree_after, is_branch}
 use Rattle.rf_show.specs.Case.{case_of}
 use Rattle.rf_checker.specs.Boxes.{Fits}
-use Rattle.rf_checker.specs.Lines.{TreeFits}
-use Rattle.rf_checker.proofs.CheckLemmas.{walk_step, tests_passed, lines_push, grown_fits, path_fits, none_of, if_not}
+use Rattle.rf_checker.specs.Lines.{HasTargets, TreeFits}
+use Rattle.rf_checker.proofs.CheckLemmas.{walk_step, walk_refused, tests_passed, lines_push, grown_fits, path_fits, none_of, if_not}
 use Rattle.rf_checker.proofs.walk.walk_lines.Goals as goal
 use Rattle.rf_checker.proofs.walk.walk_lines.Goals.{then-is_branch, else-is_branch}
 
@@ -48,3 +49,31 @@ loop-i-preserved c =
         | else-is_branch w ↦ omega (arith, c.loop-i.invariant.few, w.branchings-is)
       ];
     }
+
+pub cause-requires-clause-lines : goal.cause-requires-clause-lines
+cause-requires-clause-lines c = c.loop-i.invariant.lines
+
+pub cause-requires-clause-targets : goal.cause-requires-clause-targets
+cause-requires-clause-targets c =
+    subst HasTargets (sym c.index-lines-i.is) (c.requires.targets c.loop-i.i c.index-lines-i.result c.loop-i-test.true)
+
+pub returns-then-closed : goal.returns-then-closed
+returns-then-closed c =
+    let case = case_of c.args.show.now in
+    let lines = c.args.lines.now in
+    let i = c.loop-i.i in
+    walk_refused case lines i c.index-lines-i.result None Closed _ c.loop-i-test.true refl
+    (ap (λ (b : Bool). walk case (take i lines) (if b then None else Some (reverse c.loop-i.path.items)) (drop i lines)) (sym c.if-closed.true) ∙ c.loop-i.invariant.same)
+
+pub returns-in-Some : goal.returns-in-Some
+returns-in-Some c =
+    let case = case_of c.args.show.now in
+    let lines = c.args.lines.now in
+    let i = c.loop-i.i in
+    let line = c.index-lines-i.result in
+    let path = c.loop-i.path.items in
+    let found : cause_of case (take i lines) (Some (reverse path)) (get_or lines i line) ≡ Some c.in-Some.cause =
+    ap (λ (l : LogLine). cause_of case (take i lines) (Some (reverse path)) l) (sym c.index-lines-i.is)
+    ∙ (ap (λ (xs : List Cond). cause_of case (take i lines) (Some (reverse xs)) line) (sym c.as_slice.ensures.value) ∙ (sym c.in_ok-cause.ensures ∙ c.in-Some.is)) in
+    walk_refused case lines i line (Some (reverse path)) c.in-Some.cause _ c.loop-i-test.true found
+    (ap (λ (b : Bool). walk case (take i lines) (if b then None else Some (reverse path)) (drop i lines)) (sym c.if-closed.false) ∙ c.loop-i.invariant.same)
