@@ -23,7 +23,7 @@ use std::alloc::Global;
 const LOG_LIMIT: usize = 268_435_456;
 
 /// Why a check finds nothing.
-#[derive(Clone, Copy, Debug, PartialEq, Eq)]
+#[derive(Clone, Copy, PartialEq, Eq)]
 pub enum CheckFault {
     /// The shelf failed at a file.
     Shelf,

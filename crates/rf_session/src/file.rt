@@ -18,7 +18,7 @@ use std::alloc::Global;
 const FILE_LIMIT: usize = 16_777_216;
 
 /// What came of a file.
-#[derive(Debug, Drop)]
+#[derive(Drop)]
 pub(crate) enum File {
     /// Its bytes.
     Found(Vec<u8>),

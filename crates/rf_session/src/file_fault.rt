@@ -10,7 +10,7 @@ use rf_scan::ScanFault;
 use std::alloc::Global;
 
 /// Why a file gives nothing.
-#[derive(Clone, Copy, Debug, PartialEq, Eq)]
+#[derive(Clone, Copy, PartialEq, Eq)]
 pub enum FileFault {
     /// The shelf failed at it.
     Shelf,

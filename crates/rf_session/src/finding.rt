@@ -10,7 +10,7 @@ use rf_log::{Cause, Verdict};
 use std::alloc::Global;
 
 /// What a check of a log over the show of a show file comes to. Lines count from 1.
-#[derive(Clone, Copy, Debug, PartialEq, Eq)]
+#[derive(Clone, Copy, PartialEq, Eq)]
 pub enum Finding {
     /// The log is judged so.
     Judged(Verdict),

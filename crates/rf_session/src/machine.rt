@@ -9,7 +9,7 @@ ghost use Rattle.rf_session.specs.Run.{Replied, IsCut};
 use rf_base::{Shelf, Sink};
 
 /// Why an answer was not written whole.
-#[derive(Clone, Copy, Debug, PartialEq, Eq)]
+#[derive(Clone, Copy, PartialEq, Eq)]
 pub enum Stop {
     /// The output failed.
     Write,

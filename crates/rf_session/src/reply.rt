@@ -11,7 +11,7 @@ use rf_base::{Failed, Items, Sink, put};
 use rf_show::Refusal;
 
 /// Why a line is refused.
-#[derive(Clone, Copy, Debug, PartialEq, Eq)]
+#[derive(Clone, Copy, PartialEq, Eq)]
 pub enum Code {
     /// E1: the line is in no command's grammar.
     UnknownLine,
@@ -98,7 +98,7 @@ impl From<Refusal> for Code {
 }
 
 /// What a line is answered.
-#[derive(Debug, Drop)]
+#[derive(Drop)]
 pub enum Reply {
     /// It is done: `ok`.
     Accepted,

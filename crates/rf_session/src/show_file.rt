@@ -27,7 +27,7 @@ use rf_text::{Command, UnknownLine, read_command};
 use std::alloc::Global;
 
 /// Why a line of a show file doesn't change the show.
-#[derive(Clone, Copy, Debug, PartialEq, Eq)]
+#[derive(Clone, Copy, PartialEq, Eq)]
 pub enum LineFault {
     /// It is refused.
     Refused(Code),
@@ -50,7 +50,7 @@ impl From<FileFault> for LineFault {
 }
 
 /// Why a show file makes no show.
-#[derive(Clone, Copy, Debug, PartialEq, Eq)]
+#[derive(Clone, Copy, PartialEq, Eq)]
 pub enum ShowFault {
     /// The first line that is refused, the first line of the file being 1, and its code.
     Line { line: u32, code: Code },
