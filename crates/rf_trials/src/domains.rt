@@ -90,6 +90,8 @@ fn put_back(domains: &Domains) -> Result<(), Broken> {
         (next(domains, 1, 0) == Some(59), "the first that came back"),
         (next(domains, 1, 65) == Some(131), "the one that was left"),
         (next(domains, 1, 132).is_none(), "none above it"),
+    ])?;
+    hold(&[
         (has(domains, 1, 64), "the last that came back"),
         (!has(domains, 1, 65), "the one above it"),
         (!has(domains, 1, 200), "no index of the set"),

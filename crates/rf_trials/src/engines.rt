@@ -5,7 +5,7 @@ ghost use Rattle.rf_problem.specs.Problem.{case_of};
 
 use crate::hold::{Broken, hold, told};
 use crate::problems::{Flags, Row, problem_of_rows};
-use crate::trails::{decide, entry};
+use crate::trails::{decide, is_entry};
 use rf_base::NoMemory;
 use rf_log::{Cond, Hint};
 use rf_problem::Problem;
@@ -18,15 +18,23 @@ use std::test::Fail;
 /// What an engine answers, and what it leaves.
 pub(crate) type Found = (Outcome, Flags);
 
-fn left_of(trail: &Trail) -> Flags {
+fn has(trail: &Trail, carrier: usize, k: u32) -> bool {
     let domains = trail.domains();
-    let mut left = [[false; 4]; 4];
-    for c in 0..domains.carriers().min(4) {
-        for k in 0..4 {
-            left[c][k] = domains.has(c, k as u32);
-        }
-    }
-    left
+    carrier < domains.carriers() && domains.has(carrier, k)
+}
+
+fn row_of(trail: &Trail, carrier: usize) -> [bool; 4] {
+    let first = has(trail, carrier, 0);
+    let second = has(trail, carrier, 1);
+    let third = has(trail, carrier, 2);
+    [first, second, third, has(trail, carrier, 3)]
+}
+
+fn left_of(trail: &Trail) -> Flags {
+    let first = row_of(trail, 0);
+    let second = row_of(trail, 1);
+    let third = row_of(trail, 2);
+    [first, second, third, row_of(trail, 3)]
 }
 
 /// Settles an engine, and looks at what is left.
@@ -167,18 +175,18 @@ fn wide(third: bool) -> Row {
 }
 
 /// The removal of the third channel.
-fn struck(carrier: u32) -> Option<Entry> {
+fn struck(carrier: u32) -> Entry {
     let hint = Hint::Ban {
         carrier,
         lo: 2,
         hi: 2,
     };
-    Some(Entry {
+    Entry {
         carrier: carrier as usize,
         lo: 2,
         hi: 2,
         hint: Some(hint),
-    })
+    }
 }
 
 /// What a further engine answers.
@@ -199,8 +207,8 @@ fn bans_strike(alloc: Global) -> Result<(), Broken> {
         (first == Outcome::Quiet, "each carrier has a channel left"),
         (trail.left() == 10, "two of twelve are gone"),
         (trail.len() == 2, "by two removals"),
-        (entry(&trail, 0) == struck(0), "the first carrier's"),
-        (entry(&trail, 1) == struck(1), "the second carrier's"),
+        (is_entry(&trail, 0, struck(0)), "the first carrier's"),
+        (is_entry(&trail, 1, struck(1)), "the second carrier's"),
     ])?;
     let second = answer(alloc, &problem, &mut trail)?;
     hold(&[

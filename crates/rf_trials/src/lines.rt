@@ -1,40 +1,8 @@
-//! Script lines that no reply tells of: what they read as, and that their commands write them again.
+//! Script lines that no reply tells of, written again by their commands.
 use crate::hold::{Broken, hold, told};
-use rf_base::Name;
-use rf_show::Edit;
-use rf_text::{Command, command_text, read_command};
+use rf_text::{command_text, read_command};
 use std::alloc::Global;
 use std::test::Fail;
-
-fn sets(line: &[u8]) -> Option<(Name, u32)> {
-    match &read_command(line) {
-        Ok(Command::Change(Edit::SetAt { name, khz })) => Some((*name, *khz)),
-        _ => None,
-    }
-}
-
-fn adds_profile(line: &[u8]) -> Option<(Name, [u32; 9])> {
-    match &read_command(line) {
-        Ok(Command::Change(Edit::AddProfile { name, numbers })) => Some((*name, *numbers)),
-        _ => None,
-    }
-}
-
-fn lines_are_read() -> Result<(), Broken> {
-    let a = Name::read(b"a").ok_or("a name")?;
-    let (set, khz) = sets(b"set a 0").ok_or("a frequency")?;
-    let line = b"profile a 500000 510000 25 350 0 100 50 0 999999999";
-    let (added, numbers) = adds_profile(line).ok_or("a profile")?;
-    let wanted = [500_000, 510_000, 25, 350, 0, 100, 50, 0, 999_999_999];
-    hold(&[
-        (read_command(b"").is_err(), "an empty line is no command"),
-        (set == a && khz == 0, "a frequency that the show refuses"),
-        (
-            added == a && numbers == wanted,
-            "a margin that the show refuses",
-        ),
-    ])
-}
 
 /// Whether the command that a line writes is written like that.
 fn writes(alloc: Global, line: &[u8], again: &[u8]) -> bool {
@@ -50,6 +18,16 @@ fn writes(alloc: Global, line: &[u8], again: &[u8]) -> bool {
 
 fn is_written(alloc: Global, line: &[u8]) -> bool {
     writes(alloc, line, line)
+}
+
+/// Numbers that a show refuses are read and written like all others.
+fn numbers_are_written(alloc: Global) -> Result<(), Broken> {
+    let margin = b"profile a 500000 510000 25 350 0 100 50 0 999999999";
+    hold(&[
+        (read_command(b"").is_err(), "an empty line is no command"),
+        (is_written(alloc, b"set a 0"), "a frequency that is none"),
+        (is_written(alloc, margin), "a margin above all limits"),
+    ])
 }
 
 fn lines_are_written(alloc: Global) -> Result<(), Broken> {
@@ -84,7 +62,7 @@ fn decimals_are_written(alloc: Global) -> Result<(), Broken> {
 }
 
 fn all(alloc: Global) -> Result<(), Broken> {
-    lines_are_read()?;
+    numbers_are_written(alloc)?;
     lines_are_written(alloc)?;
     decimals_are_written(alloc)
 }

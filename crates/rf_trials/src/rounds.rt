@@ -43,8 +43,10 @@ fn margin(small: &Small, kind: Kind, tuple: &[usize]) -> u32 {
 }
 
 fn hear(small: &Small, a: usize, b: usize) -> bool {
-    let (earlier, later) = if a < b { (a, b) } else { (b, a) };
-    a != b && (small[later % 4].hears_all || earlier % 2 == 0)
+    if a < b {
+        return small[b % 4].hears_all || a % 2 == 0;
+    }
+    a != b && (small[a % 4].hears_all || b % 2 == 0)
 }
 
 /// Distinct carriers that hear each other, in the order of the kind.

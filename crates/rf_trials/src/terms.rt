@@ -4,18 +4,15 @@ use rf_terms::{Kind, broken, kinds, text, value, window};
 use std::test::Fail;
 
 fn windows() -> Result<(), Broken> {
-    let middle = window(Kind::T3Two, 0, &[500_000, 500_400], 100);
-    let without = window(Kind::T3Two, 0, &[500_000, 500_400], 0);
-    let between = window(Kind::T5Two, 1, &[500_000, 500_001], 1);
-    let single = window(Kind::T5Two, 1, &[500_000, 500_000], 1);
+    let middle = window(Kind::T3Two, 0, &[500_000, 500_400], 100) == Some((500_151, 500_249));
+    let without = window(Kind::T3Two, 0, &[500_000, 500_400], 0).is_none();
+    let between = window(Kind::T5Two, 1, &[500_000, 500_001], 1).is_none();
+    let single = window(Kind::T5Two, 1, &[500_000, 500_000], 1) == Some((500_000, 500_000));
     hold(&[
-        (
-            middle == Some((500_151, 500_249)),
-            "half of a margin of 100",
-        ),
-        (without.is_none(), "no margin"),
-        (between.is_none(), "no whole number between"),
-        (single == Some((500_000, 500_000)), "one number alone"),
+        (middle, "half of a margin of 100"),
+        (without, "no margin"),
+        (between, "no whole number between"),
+        (single, "one number alone"),
     ])
 }
 

@@ -45,16 +45,13 @@ fn undo(trail: &mut Trail, mark: Mark) {
     }
 }
 
-/// The entry of a number, counted from the oldest.
-pub(crate) fn entry(trail: &Trail, n: usize) -> Option<Entry> {
-    if n < trail.len() {
-        return Some(trail.entry(n));
-    }
-    None
+/// Whether the entry of a number, counted from the oldest, is this one.
+pub(crate) fn is_entry(trail: &Trail, n: usize, wanted: Entry) -> bool {
+    n < trail.len() && trail.entry(n) == wanted
 }
 
 /// Bit k is set where index k is left to the carrier.
-pub(crate) fn left(trail: &Trail, carrier: usize) -> u64 {
+fn left(trail: &Trail, carrier: usize) -> u64 {
     let domains = trail.domains();
     let mut bits = 0;
     if carrier >= domains.carriers() {
@@ -115,14 +112,14 @@ fn all_entries(trail: &Trail) -> Result<(), Broken> {
         (left(trail, 1) == 0b0010, "what is left to the second"),
         (left(trail, 2) == 0b1000, "what is left to the third"),
         (trail.left() == 3, "one index each"),
-        (entry(trail, 3) == Some(decided()), "a decision has no hint"),
+        (is_entry(trail, 3, decided()), "a decision has no hint"),
     ])
 }
 
 fn first_entry(trail: &Trail) -> Result<(), Broken> {
     hold(&[
         (trail.len() == 1, "one entry is left"),
-        (entry(trail, 0) == Some(removed()), "a removal has its hint"),
+        (is_entry(trail, 0, removed()), "a removal has its hint"),
         (left(trail, 0) == 0b1001, "what it leaves"),
         (left(trail, 1) == 0b1111, "the second has all again"),
         (left(trail, 2) == 0b1111, "the third has all again"),

@@ -19,11 +19,7 @@ fn set_coupled(zones: &mut Zones, a: u8, b: u8, on: bool) {
     if a >= zones.count() || b >= zones.count() {
         return;
     }
-    if on {
-        zones.couple(a, b);
-    } else {
-        zones.uncouple(a, b);
-    }
+    zones.set_coupled(a, b, on);
 }
 
 fn hear(zones: &Zones, a: u8, b: u8) -> bool {
