@@ -1,7 +1,7 @@
 use rf_terms::Kind;
 
 /// A rule that a show breaks. Carriers are places in the show's list, frequencies are in kilohertz.
-#[derive(Clone, Copy, Debug)]
+#[derive(Clone, Copy)]
 pub enum Conflict {
     /// A carrier's frequency is no channel of its profile.
     OffGrid {

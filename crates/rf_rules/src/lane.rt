@@ -11,7 +11,7 @@ use rf_show::Show;
 use rf_terms::{Kind, coefficient, roles};
 
 /// What a carrier adds to a form in its last role, and what it asks there.
-#[derive(Clone, Copy, Debug)]
+#[derive(Clone, Copy)]
 pub struct Lane {
     pub term: i64,
     pub needs: u32,

@@ -7,7 +7,7 @@ use rf_terms::Kind;
 
 /// An intermodulation product of sources, which stand in the order of the kind's roles; a kind with two sources has 0 in
 /// the third place. Its value is in kilohertz.
-#[derive(Clone, Copy, Debug)]
+#[derive(Clone, Copy)]
 pub struct Product {
     pub value: i64,
     pub kind: Kind,

@@ -21,7 +21,7 @@ use rf_show::{Show, case_is_asked};
 use std::alloc::Global;
 
 /// What a search of a show came to: the text of its verdict; and where it found a plan, a frequency for each carrier.
-#[derive(Debug, Drop)]
+#[derive(Drop)]
 pub struct Found {
     pub verdict: Items<u8>,
     pub ats: Option<Items<Option<Khz>>>,
