@@ -10,7 +10,7 @@ use rf_exclusions::Sep;
 use rf_show::Edit;
 
 /// What a script line asks for.
-#[derive(Debug, Drop)]
+#[derive(Drop)]
 pub enum Command {
     /// An edit of the show that names no file.
     Change(Edit),
@@ -58,7 +58,7 @@ pub enum Command {
 }
 
 /// The line is in no command's grammar.
-#[derive(Clone, Copy, PartialEq, Eq, Debug)]
+#[derive(Clone, Copy, PartialEq, Eq)]
 pub struct UnknownLine;
 
 /// The command that a line writes, or `UnknownLine` exactly where it is in no command's grammar. Its edit is one that a
