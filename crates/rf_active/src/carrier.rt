@@ -4,7 +4,7 @@ ghost use Rattle.std.specs.Prelude.{◌≡◌, ◌<◌, ◌≤◌, ℕ, All, IfO
 ghost use Rattle.std.specs.List.{range_with_len};
 ghost use Rattle.std.specs.List.Sorted.{IsStrictlyIncreasing};
 ghost use Rattle.rf_terms.specs.Forms.{AreFrequencies};
-ghost use Rattle.rf_zones.specs.declared.slices.TheConstants.{MAX_CARRIERS};
+ghost use Rattle.rf_zones.specs.declared.mask.TheConstants.{MAX_CARRIERS};
 ghost use Rattle.rf_show.specs.Query.{is_allowed};
 ghost use Rattle.rf_show.specs.Case.{channels_of};
 ghost use Rattle.rf_profiles.specs.Channels as profile;
@@ -15,6 +15,12 @@ use rf_problem::Problem;
 use rf_profiles::Channels;
 use rf_show::Show;
 use std::alloc::Global;
+
+// The size of a set of two carriers, which keep their spacing.
+const PAIR: usize = 2;
+
+// The size of a set of three, which tells as well who may be together in a set of four.
+const MORE: usize = 3;
 
 /// Adds a carrier of a show to a problem that has all carriers before it.
 pub(crate) fn add_carrier(
@@ -35,7 +41,8 @@ pub(crate) fn add_carrier(
         allowed,
         show.spacing(carrier),
         &show.margins(carrier),
-        show.hearers(carrier),
+        show.meeters(MORE, carrier),
+        show.meeters(PAIR, carrier),
     )
 }
 

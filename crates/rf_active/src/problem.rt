@@ -5,14 +5,14 @@ ghost use Rattle.rf_show.specs.Case.{case_of};
 use crate::carrier::add_carrier;
 use rf_base::NoMemory;
 use rf_problem::Problem;
-use rf_show::{Show, hearing_is_mutual};
+use rf_show::{Show, meeting_is_mutual};
 use std::alloc::Global;
 
 /// The problem of a show: its case is the case of the show. `NoMemory` where no memory is found.
 pub fn problem_of(alloc: Global, show: &Show) -> Result<Problem, NoMemory>
     ensures { IfOk result (λ p. problem.case_of p ≡ case_of show.now) }
 {
-    hearing_is_mutual();
+    meeting_is_mutual();
     let slices = show.slices(alloc)?;
     let masks = slices.masks().to_vec(alloc)?;
     let mut problem = Problem::new(alloc, masks);

@@ -11,10 +11,10 @@ use Rattle.rf_log.specs.Box.{box_of, is_met_by}
 use Rattle.std.proofs.lemmas.List.{take_more, take_more_set, reverse-append}
 use Rattle.rf_log.specs.declared.cond.Cond.{Cond}
 use Rattle.rf_terms.specs.declared.kind.Kind.{Kind}
-use Rattle.rf_terms.specs.declared.kind.Kind.TheVariants.{Spacing, T3Two, T3Three, T5Two, T5ThreeA, T5ThreeB}
 use Rattle.rf_log.specs.declared.hint.Hint.{Hint}
 use Rattle.rf_log.specs.declared.hint.Hint.TheVariants.{Earlier, Ban, Rule}
 use Rattle.rf_terms.specs.Kinds.{roles_of}
+use Rattle.rf_terms.proofs.KindLaws.{four_roles}
 use Rattle.rf_log.specs.Case.{Case, count_of}
 use Rattle.rf_checker.specs.Lines.{HasTarget, HintKnown}
 use Rattle.rf_log.specs.Walk.{turned, right_side, knows_hint, knows_names}
@@ -37,20 +37,12 @@ turn_at path i d new low left is =
     ap turned front ∙ (ap (λ (b : Bool). if b then Some (right_side (get_or path i d) ∷ reverse (take i path)) else turned (reverse (take i path))) left
     ∙ (ap (λ (x : Cond). Some (x ∷ reverse (take i path))) (sym is) ∙ ap (λ (xs : List Cond). Some xs) (sym back)))
 
-pub few_roles : (kind : Kind) → roles_of kind ≤ 4
-few_roles Spacing = omega arith
-few_roles T3Two = omega arith
-few_roles T3Three = omega arith
-few_roles T5Two = omega arith
-few_roles T5ThreeA = omega arith
-few_roles T5ThreeB = omega arith
-
 pub rule_known : (case : Case) (hint : Hint) (kind : Kind) (roles : List ℕ) (target lo hi : ℕ) → HasTarget hint → HintKnown case hint → hint ≡ Rule kind roles target lo hi
     → slice_index roles target < length case.carriers
 rule_known case hint kind roles target lo hi has known is =
     let t : HasTarget (Rule kind roles target lo hi) = subst (λ (h : Hint). HasTarget h) is has in
     let k : HintKnown case (Rule kind roles target lo hi) = subst (λ (h : Hint). HintKnown case h) is known in
-    role_at (roles_of kind) (length case.carriers) roles target k t.0 (omega (arith, t.1, few_roles kind))
+    role_at (roles_of kind) (length case.carriers) roles target k t.0 (omega (arith, t.1, four_roles kind))
 
 all_known : (n : ℕ) (roles : List ℕ) → list_all (λ c. nat_lt c n) roles ≡ true → All (λ c. c < n) roles
 all_known n [] known k d low = absurd (omega arith)

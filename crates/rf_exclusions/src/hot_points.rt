@@ -1,6 +1,8 @@
-ghost use Rattle.std.specs.Prelude.{◌≡◌};
+ghost use Rattle.std.specs.Prelude.{◌≡◌, IfOk};
 ghost use Rattle.std.specs.List.Sorted.{IsStrictlyIncreasing};
 
+use rf_base::NoMemory;
+use std::alloc::Global;
 use std::marker::Model;
 
 /// Frequencies in millihertz, rising and distinct, at which a scan met or passed its threshold.
@@ -35,5 +37,13 @@ impl HotPoints {
         ensures rising { IsStrictlyIncreasing self.now }
     {
         self.points.as_slice()
+    }
+
+    /// The same points again. `NoMemory` where no memory is found.
+    pub fn copy(&self, alloc: Global) -> Result<HotPoints, NoMemory>
+        ensures { IfOk result (λ points. points ≡ self.now) }
+    {
+        let points = self.as_slice().to_vec(alloc)?;
+        Ok(HotPoints { points })
     }
 }

@@ -1,10 +1,11 @@
-ghost use Rattle.std.specs.Prelude.{◌≡◌, ℕ, ◌<◌, ◌≤◌, ◌&&◌, nat_le, length, slice_index};
+ghost use Rattle.std.specs.Prelude.{◌≡◌, ℕ, ◌<◌, ◌≤◌, ◌&&◌, nat_le, length, slice_index, IfOk};
 ghost use Rattle.std.specs.List.{list_any};
 ghost use Rattle.std.specs.List.Sorted.{IsStrictlyIncreasing};
 ghost use Rattle.rf_exclusions.specs.Touched.{is_touched_by_scan};
 
 use crate::hot_points::HotPoints;
-use rf_base::{Decimal, FileName, Khz, Name};
+use rf_base::{Decimal, FileName, Khz, Name, NoMemory};
+use std::alloc::Global;
 
 /// What stands between the fields of a scan file.
 #[derive(Clone, Copy, PartialEq, Eq)]
@@ -29,6 +30,23 @@ pub struct ScanSet {
     pub width: u32,
     /// The hot points, in millihertz.
     pub hot: HotPoints,
+}
+
+impl ScanSet {
+    /// The same scan again. `NoMemory` where no memory is found.
+    pub fn copy(&self, alloc: Global) -> Result<ScanSet, NoMemory>
+        ensures { IfOk result (λ scan. scan ≡ self.now) }
+    {
+        let hot = self.hot.copy(alloc)?;
+        Ok(ScanSet {
+            file: self.file,
+            sep: self.sep,
+            zone: self.zone,
+            threshold: self.threshold,
+            width: self.width,
+            hot,
+        })
+    }
 }
 
 const MILLIHERTZ_PER_KHZ: u64 = 1_000_000;

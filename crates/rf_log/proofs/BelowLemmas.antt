@@ -1,17 +1,17 @@
 -- The carriers of a line that is read are places among the names with its names.
-use Rattle.std.proofs.Common.{◌≡◌, ◌∙◌, ◌+◌, ◌-◌, ◌<◌, ◌≤◌, ℕ, zero, suc, List, [], ◌∷◌, ◌++◌, Bool, true, false, refl, sym, arith, ap, subst, length, take, drop, set, replicate, get_or, Some, None, length-set, length-append}
+use Rattle.std.proofs.Common.{◌≡◌, ◌∙◌, ◌+◌, ◌-◌, ◌<◌, ◌≤◌, ℕ, zero, suc, List, [], ◌∷◌, ◌++◌, Bool, true, false, refl, sym, arith, subst, length, take, drop, set, replicate, get_or, Some, None, length-set, length-append}
 use Rattle.std.specs.Prelude.{IfSome, option_map, option_and_then, codes, slice_set, if◌then◌else◌, nat_le, ◌&&◌}
 use Rattle.std.specs.declared.option.Option.{Option}
 use Rattle.std.specs.List.{All, list_any, position_or_len}
 use Rattle.std.specs.Str.{bytes_eq}
 use Rattle.std.proofs.lemmas.Bool.Decides.{nat_tests}
 use Rattle.std.proofs.lemmas.List.Elements.{All-append, All-nil, All-cons}
-use Rattle.std.proofs.lemmas.List.{drop-set, take_more_set}
+use Rattle.std.proofs.lemmas.List.{take_more_set}
 use Rattle.rf_base.specs.Name.{name_of, same_name}
 use Rattle.rf_base.specs.Decimal.{number_of}
 use Rattle.rf_terms.specs.declared.kind.Kind.{Kind}
-use Rattle.rf_terms.specs.declared.kind.Kind.TheVariants.{Spacing, T3Two, T3Three, T5Two, T5ThreeA, T5ThreeB}
-use Rattle.rf_terms.specs.Kinds.{roles_of}
+use Rattle.rf_terms.specs.Kinds.{kind_of, roles_of}
+use Rattle.rf_terms.proofs.KindLaws.{four_roles}
 use Rattle.rf_log.specs.declared.cond.Cond.{Cond}
 use Rattle.rf_log.specs.declared.hint.Hint.{Hint}
 use Rattle.rf_log.specs.declared.hint.Hint.TheVariants.{Earlier, Ban, Rule}
@@ -19,9 +19,9 @@ use Rattle.rf_log.specs.declared.line.LogLine.{LogLine}
 use Rattle.rf_log.specs.declared.line.LogLine.TheVariants.{Nogood, Branch, Up}
 use Rattle.rf_log.specs.Words.{words_in, lines_in, is_feed, with_byte}
 use Rattle.rf_log.specs.Names.{number_of_name, names_with}
-use Rattle.rf_log.specs.Operands.{◌>>=◌, taken, only, side_of, cut_of, kind_of, target_in, range_in, place_in}
+use Rattle.rf_log.specs.Operands.{taken, only, side_of, cut_of, target_in, range_in, place_in}
 use Rattle.rf_log.specs.Reading.{cond_by, conds_in, hint_by, hints_in, roles_in, ban_in, rule_in, line_hint_in, nogood_in, branch_in, up_in, line_by, line_in, target_range_in, no_roles}
-use Rattle.rf_log.specs.LogText.{IsRuleBelow, IsHintBelow, IsCondBelow, IsLineBelow, IsLog, LogData, before_ending, is_ending}
+use Rattle.rf_log.specs.LogText.{IsHintBelow, IsCondBelow, IsLineBelow, IsLog, before_ending, is_ending}
 
 if_map : {A B : Type 0} (f : A → B) (P : B → Type 0) (o : Option A) → IfSome o (λ x. P (f x)) → IfSome (option_map f o) P
 if_map f P None h = tt
@@ -159,14 +159,6 @@ roles_below (suc count) place total roles names words e h is =
     (λ r a. let grown = a.grown in let first = next.grown in record { below = a.below; grown = omega arith })
     (roles_below count (suc place) total (slice_set roles place (number_of_name names name.0)) (names_with names name.0) name.1 (omega arith) h set_one))
 
-few_roles : (kind : Kind) → roles_of kind ≤ 4
-few_roles Spacing = omega arith
-few_roles T3Two = omega arith
-few_roles T3Three = omega arith
-few_roles T5Two = omega arith
-few_roles T5ThreeA = omega arith
-few_roles T5ThreeB = omega arith
-
 target_below : (kind : Kind) (role : ℕ) → IfSome (target_in kind role) (λ target. target < roles_of kind)
 target_below kind role =
     let P : Bool → Type 0 = λ b. (nat_le 1 role && nat_le role (roles_of kind)) ≡ b → IfSome (if b then Some (role - 1) else None) (λ target. target < roles_of kind) in
@@ -191,7 +183,7 @@ rule_below : (names words : List (List ℕ)) → IfSome (rule_in names words) (�
 rule_below names words =
     if_any _ _ (taken kind_of words) (λ kind.
     if_then _ (λ r. AreBelow (λ n. AreSet n (roles_of kind.0)) names r.0 r.1) _ (roles_in (roles_of kind.0) 0 no_roles names kind.1)
-    (roles_below (roles_of kind.0) 0 (roles_of kind.0) no_roles names kind.1 (omega arith) (few_roles kind.0) (no_role_set (length names))) (λ roles is.
+    (roles_below (roles_of kind.0) 0 (roles_of kind.0) no_roles names kind.1 (omega arith) (four_roles kind.0) (no_role_set (length names))) (λ roles is.
     if_then _ (λ r. r.0.0 < roles_of kind.0) _ (target_range_in kind.0 roles.2) (target_range_below kind.0 roles.2) (λ at h.
     let set_all = is.below in
     record { below = record { known = set_all.known; rest = set_all.rest; place = h; full = set_all.full }; grown = is.grown })))

@@ -221,8 +221,9 @@ wanted_passes test carriers set true of distinct fails e =
     let parts = and_parts (nat_le 2 (length set) && test set) _ e in
     let passes = (and_parts (nat_le 2 (length set)) _ parts.0).1 in
     let just = and_parts (length set == length carriers) _ parts.1 in
-    let fit : length set ≤ length carriers = grind (arith, nat_tests, just.0) in
-    sym passes ∙ of.same set carriers (among_back carriers set distinct just.1 fit) just.1 ∙ fails
+    let many : length set ≡ length carriers = grind (arith, nat_tests, just.0) in
+    let fit : length set ≤ length carriers = omega (arith, many) in
+    sym passes ∙ of.same set carriers many (among_back carriers set distinct just.1 fit) just.1 ∙ fails
 
 sets_cond : (b : Bool) (test : List ℕ → Bool) (count : ℕ) (carriers : List ℕ) → test carriers ≡ b → IsOfSets test
     → list_all (λ c. nat_lt c count) carriers ≡ true → are_distinct carriers ≡ true → 2 ≤ length carriers → length carriers ≤ 4
@@ -236,9 +237,10 @@ sets_cond true test count carriers e of known distinct some few =
     let back : list_all (is_among chosen) carriers ≡ true = all_kept carriers all (is_among carriers) (all_among carriers) (all_in_range carriers count known) in
     let less = fits chosen carriers (distinct_range (is_among carriers) 0 count) into in
     let more = fits carriers chosen distinct back in
-    let same : (length chosen == length carriers) ≡ true = grind (arith, nat_tests, less, more) in
+    let many : length chosen ≡ length carriers = omega (arith, less, more) in
+    let same : (length chosen == length carriers) ≡ true = grind (arith, nat_tests, many) in
     chosen_listed (is_among carriers) all 4 (is_wanted test carriers) (omega (arith, some, more)) (omega (arith, few, less))
-    (and_true _ _ (and_true _ _ (le-leb _ _ (omega (arith, some, more))) (of.same chosen carriers into back ∙ e)) (and_true _ _ same back))
+    (and_true _ _ (and_true _ _ (le-leb _ _ (omega (arith, some, more))) (of.same chosen carriers many into back ∙ e)) (and_true _ _ same back))
 
 pub sets_tested : (test : List ℕ → Bool) (count : ℕ) (carriers : List ℕ) → IsOfSets test
     → list_all (λ c. nat_lt c count) carriers ≡ true → are_distinct carriers ≡ true → 2 ≤ length carriers → length carriers ≤ 4

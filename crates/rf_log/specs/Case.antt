@@ -4,19 +4,16 @@ use Rattle.std.specs.List.{list_all, list_any}
 use Rattle.rf_terms.specs.declared.kind.Kind.{Kind}
 use Rattle.rf_terms.specs.declared.kind.Kind.TheVariants.{Spacing}
 use Rattle.rf_terms.specs.declared.kind.Margin.{Margin}
-use Rattle.rf_terms.specs.declared.kind.Margin.TheVariants.{Spacing as OfSpacing, M2t3, M3t3, M2t5, M3t5}
 use Rattle.rf_terms.specs.Kinds as table
 use Rattle.rf_terms.specs.Forms.{value_of}
 
--- a carrier: the frequencies of its channels in kHz, rising; which of them are allowed; its spacing and margins
+-- a carrier: the frequencies of its channels in kHz, rising; which of them are allowed; its spacing, and its margins in the
+-- order of the table of margins
 pub record Carrier : Type 0 where
   pub freqs : List ℕ
   pub allowed : List Bool
   pub spacing : ℕ
-  pub m2t3 : ℕ
-  pub m3t3 : ℕ
-  pub m2t5 : ℕ
-  pub m3t5 : ℕ
+  pub margins : List ℕ
 
 -- the carriers, and which sets of two to four of them are together, each a rising list
 pub record Case : Type 0 where
@@ -24,7 +21,7 @@ pub record Case : Type 0 where
   pub together : List (List ℕ)
 
 abbrev pub no_carrier : Carrier
-no_carrier = record { freqs = []; allowed = []; spacing = 0; m2t3 = 0; m3t3 = 0; m2t5 = 0; m3t5 = 0 }
+no_carrier = record { freqs = []; allowed = []; spacing = 0; margins = [] }
 
 abbrev pub carrier_of : Case → ℕ → Carrier
 carrier_of case c = slice_index_or case.carriers c no_carrier
@@ -45,11 +42,7 @@ is_allowed case c k = slice_index_or (carrier_of case c).allowed k false
 
 -- what a carrier asks
 abbrev pub asked : Carrier → Margin → ℕ
-asked carrier OfSpacing = carrier.spacing
-asked carrier M2t3 = carrier.m2t3
-asked carrier M3t3 = carrier.m3t3
-asked carrier M2t5 = carrier.m2t5
-asked carrier M3t5 = carrier.m3t5
+asked carrier margin = slice_index (carrier.spacing ∷ carrier.margins) (table.place_of margin)
 
 abbrev pub asked_by : Case → Kind → ℕ → ℕ
 asked_by case kind c = asked (carrier_of case c) (table.margin_of kind)

@@ -23,9 +23,9 @@ SettledIsClosed = (case : Case) (path : List Cond) (has : Box)
     → ((c k : ℕ) → members has c k → Meets case path c k × IsTrue (is_allowed case c k))
     → IsWithin (members has) (Closure case path) × IsLiving case (Closure case path)
 
--- a test of lists of carriers looks only at which carriers there are
+-- a test of lists of carriers looks only at which carriers there are, and at how many
 pub record IsOfSets (test : List ℕ → Bool) : Type 0 where
-  pub same : (s t : List ℕ) → list_all (is_among t) s ≡ true → list_all (is_among s) t ≡ true → test s ≡ test t
+  pub same : (s t : List ℕ) → length s ≡ length t → list_all (is_among t) s ≡ true → list_all (is_among s) t ≡ true → test s ≡ test t
 
 -- among the sets that pass a test is the one of these carriers exactly where they pass it
 abbrev pub SetsAreTested : Type 0

@@ -1,7 +1,6 @@
 -- How the lines of a log are written.
-use Rattle.std.specs.Prelude.{ℕ, ◌+◌, ◌<◌, ◌≤◌, List, [], ◌∷◌, ◌++◌, Bool, map, take, length, decimal, codes, slice_index_or, if◌then◌else◌}
+use Rattle.std.specs.Prelude.{ℕ, ◌+◌, ◌≤◌, List, [], ◌∷◌, ◌++◌, Bool, map, take, decimal, codes, slice_index_or, if◌then◌else◌}
 use Rattle.std.specs.List.{All, flat_map}
-use Rattle.rf_terms.specs.declared.kind.Kind.{Kind}
 use Rattle.rf_terms.specs.Kinds.{roles_of, text_of}
 use Rattle.rf_log.specs.declared.cond.Cond.{Cond}
 use Rattle.rf_log.specs.declared.line.Cut.{Cut}
@@ -10,7 +9,6 @@ use Rattle.rf_log.specs.declared.hint.Hint.{Hint}
 use Rattle.rf_log.specs.declared.hint.Hint.TheVariants.{Earlier, Ban, Rule}
 use Rattle.rf_log.specs.declared.line.LogLine.{LogLine}
 use Rattle.rf_log.specs.declared.line.LogLine.TheVariants.{Nogood, Branch, Up}
-use Rattle.rf_log.specs.LogText.{IsLineBelow}
 
 -- words, each after a space
 abbrev pub spaced : List (List ℕ) → List ℕ

@@ -1,10 +1,10 @@
 -- How the words of a line are read one after another.
-use Rattle.std.specs.Prelude.{ℕ, List, [], ◌∷◌, Bool, true, false, Option, Some, None, option_map, option_and_then, codes, find, ◌-◌, ◌&&◌, nat_le, if◌then◌else◌}
+use Rattle.std.specs.Prelude.{ℕ, List, [], ◌∷◌, Bool, true, false, Option, Some, None, option_map, option_and_then, codes, ◌-◌, ◌&&◌, nat_le, if◌then◌else◌}
 use Rattle.std.specs.Str.{bytes_eq}
 use Rattle.rf_base.specs.Decimal.{number_of}
 use Rattle.rf_base.specs.Name.{name_of}
 use Rattle.rf_terms.specs.declared.kind.Kind.{Kind}
-use Rattle.rf_terms.specs.Kinds.{kinds, text_of, roles_of}
+use Rattle.rf_terms.specs.Kinds.{roles_of}
 use Rattle.rf_log.specs.declared.line.Cut.{Cut}
 use Rattle.rf_log.specs.declared.line.Cut.TheVariants.{Fix, Split}
 
@@ -29,9 +29,6 @@ side_of word = if bytes_eq word (codes "in") then Some true else if bytes_eq wor
 
 abbrev pub cut_of : List ℕ → Option Cut
 cut_of word = if bytes_eq word (codes "fix") then Some Fix else if bytes_eq word (codes "split") then Some Split else None
-
-abbrev pub kind_of : List ℕ → Option Kind
-kind_of word = find (λ kind. bytes_eq word (text_of kind)) kinds
 
 -- the target of a rule: its place among the roles, which are counted from 1
 abbrev pub target_in : Kind → ℕ → Option ℕ

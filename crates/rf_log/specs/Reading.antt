@@ -1,19 +1,18 @@
 -- The grammar of a log's lines. Names are numbered as they come.
-use Rattle.std.specs.Prelude.{ℕ, zero, suc, List, [], ◌∷◌, ◌++◌, Bool, true, false, ◌-◌, length, Option, Some, None, option_map, option_and_then, codes, slice_set, if◌then◌else◌}
+use Rattle.std.specs.Prelude.{ℕ, zero, suc, List, [], ◌∷◌, ◌++◌, length, Option, Some, None, option_map, option_and_then, codes, slice_set, if◌then◌else◌}
 use Rattle.std.specs.Str.{bytes_eq}
 use Rattle.rf_base.specs.Decimal.{number_of}
 use Rattle.rf_base.specs.Name.{name_of}
 use Rattle.rf_terms.specs.declared.kind.Kind.{Kind}
-use Rattle.rf_terms.specs.Kinds.{roles_of}
+use Rattle.rf_terms.specs.Kinds.{kind_of, roles_of}
 use Rattle.rf_log.specs.declared.cond.Cond.{Cond}
-use Rattle.rf_log.specs.declared.line.Cut.{Cut}
 use Rattle.rf_log.specs.declared.hint.Hint.{Hint}
 use Rattle.rf_log.specs.declared.hint.Hint.TheVariants.{Earlier, Ban, Rule}
 use Rattle.rf_log.specs.declared.line.LogLine.{LogLine}
 use Rattle.rf_log.specs.declared.line.LogLine.TheVariants.{Nogood, Branch, Up}
 use Rattle.rf_log.specs.Words.{words_in}
 use Rattle.rf_log.specs.Names.{number_of_name, names_with}
-use Rattle.rf_log.specs.Operands.{◌>>=◌, taken, only, side_of, cut_of, kind_of, target_in, range_in, place_in}
+use Rattle.rf_log.specs.Operands.{◌>>=◌, taken, only, side_of, cut_of, target_in, range_in, place_in}
 
 -- `in NAME LO HI` or `out NAME LO HI`: the condition, the names with its name, and the words after it
 abbrev pub cond_by : List ℕ → List (List ℕ) → List (List ℕ) → Option (Cond × List (List ℕ) × List (List ℕ))

@@ -11,8 +11,8 @@ pub fn settled_box_is_closed()
     ensures { SettledIsClosed }
 {}
 
-/// Where a test of carriers looks only at which carriers there are, the set of two to four of them is among those that
-/// pass exactly where they pass.
+/// Where a test of carriers looks only at which carriers there are, and at how many, the set of two to four of them is among
+/// those that pass exactly where they pass.
 pub fn sets_are_tested()
     ensures { SetsAreTested }
 {}

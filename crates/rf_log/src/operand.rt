@@ -2,6 +2,7 @@ ghost use Rattle.std.specs.Prelude.{◌≡◌, ℕ, List, option_map};
 ghost use Rattle.std.specs.declared.option.Option.{Option};
 ghost use Rattle.rf_base.specs.Decimal.{number_of};
 ghost use Rattle.rf_base.specs.Name.{name_of};
+ghost use Rattle.rf_terms.specs.Kinds as table;
 ghost use Rattle.rf_log.specs.Operands as spec;
 ghost use Rattle.rf_log.specs.Reading as reading;
 
@@ -66,7 +67,7 @@ impl Operand for Cut {
 }
 
 impl Operand for Kind {
-    ghost reads = { spec.kind_of };
+    ghost reads = { table.kind_of };
 
     fn read(word: &[u8]) -> Option<Kind> {
         kinds()

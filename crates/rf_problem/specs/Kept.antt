@@ -2,8 +2,9 @@
 use Rattle.std.specs.Prelude.{◌≡◌, ◌≤◌, length, All}
 use Rattle.std.specs.List.Sorted.{IsStrictlyIncreasing}
 use Rattle.rf_terms.specs.Forms.{AreFrequencies}
-use Rattle.rf_zones.specs.declared.slices.TheConstants.{MAX_CARRIERS}
-use Rattle.rf_problem.specs.declared.limits.TheConstants.{MAX_CHANNELS, MAX_WIDTH, MARGINS}
+use Rattle.rf_terms.specs.declared.kind.TheConstants.{MARGINS}
+use Rattle.rf_zones.specs.declared.mask.TheConstants.{MAX_CARRIERS}
+use Rattle.rf_problem.specs.declared.limits.TheConstants.{MAX_CHANNELS, MAX_WIDTH}
 use Rattle.rf_problem.specs.Problem.{CarrierData, ProblemData}
 
 -- the frequencies rise, and each is one of them; as many flags as frequencies; one margin per field of a profile

@@ -1,17 +1,17 @@
-ghost use Rattle.std.specs.Prelude.{◌≡◌, ◌<◌, ◌≤◌, ◌==◌, length, slice_index, slice_index_or, false};
-ghost use Rattle.std.specs.Int.{bit_at};
+ghost use Rattle.std.specs.Prelude.{◌≡◌, ◌<◌, ◌≤◌, length};
 ghost use Rattle.std.specs.List.Sorted.{IsStrictlyIncreasing};
 ghost use Rattle.rf_terms.specs.Forms.{AreFrequencies};
 ghost use Rattle.rf_terms.specs.Kinds.{margin_of};
-ghost use Rattle.rf_zones.specs.declared.slices.TheConstants.{MAX_CARRIERS};
+ghost use Rattle.rf_zones.specs.Masks.{has_bit};
+ghost use Rattle.rf_zones.specs.declared.mask.TheConstants.{MAX_CARRIERS};
 ghost use Rattle.rf_log.specs.Case.{asked};
 ghost use Rattle.rf_problem.specs.declared.limits.TheConstants.{MAX_CHANNELS};
-ghost use Rattle.rf_problem.specs.Problem.{carrier_of};
+ghost use Rattle.rf_problem.specs.Problem.{carrier_of, mask_of};
 
-use crate::limits::MARGINS;
 use rf_base::Items;
-use rf_terms::{Kind, Margin, asks};
+use rf_terms::{Kind, MARGINS, asks, place};
 use rf_zones::Mask;
+use rf_zones::mask::has;
 use std::marker::Model;
 
 /// A carrier of a problem.
@@ -22,6 +22,7 @@ pub struct Carrier {
     pub spacing: u32,
     pub margins: [u32; MARGINS],
     pub heard: Mask,
+    pub reach: Mask,
 }
 
 impl Model for Carrier {
@@ -31,9 +32,9 @@ impl Model for Carrier {
 
     ghost use Rattle.rf_problem.specs.Kept.{IsCarrier};
 
-    ghost view = { λ c. record { freqs = c.freqs; allowed = c.allowed; spacing = c.spacing; margins = c.margins; heard = c.heard } };
+    ghost view = { λ c. record { freqs = c.freqs; allowed = c.allowed; spacing = c.spacing; margins = c.margins; heard = c.heard; reach = c.reach } };
 
-    ghost invariant = { λ c. IsCarrier (record { freqs = c.freqs; allowed = c.allowed; spacing = c.spacing; margins = c.margins; heard = c.heard }) };
+    ghost invariant = { λ c. IsCarrier (record { freqs = c.freqs; allowed = c.allowed; spacing = c.spacing; margins = c.margins; heard = c.heard; reach = c.reach }) };
 }
 
 impl Carrier {
@@ -59,20 +60,18 @@ impl Carrier {
     pub fn asked(&self, kind: Kind) -> u32
         ensures { result ≡ asked (carrier_of self.now) (margin_of kind) }
     {
-        match asks(kind) {
-            Margin::Spacing => self.spacing,
-            Margin::M2t3 => self.margins[0],
-            Margin::M3t3 => self.margins[1],
-            Margin::M2t5 => self.margins[2],
-            Margin::M3t5 => self.margins[3],
+        match place(asks(kind)) {
+            0 => self.spacing,
+            place => self.margins[place - 1],
         }
     }
 
-    /// Whether it and an earlier carrier are heard together.
-    pub fn hears(&self, earlier: usize) -> bool
+    /// Whether it and an earlier carrier may be together in a set of `size`.
+    pub fn meets(&self, size: usize, earlier: usize) -> bool
         requires { earlier < MAX_CARRIERS }
-        ensures { result ≡ (bit_at self.now.heard earlier == 1) }
+        ensures { result ≡ has_bit (mask_of size self.now) earlier }
     {
-        self.heard >> earlier & 1 == 1
+        let mask = if size <= 2 { self.reach } else { self.heard };
+        has(mask, earlier)
     }
 }

@@ -3,6 +3,3 @@ pub const MAX_CHANNELS: u32 = 65_536;
 
 /// The largest spacing or margin in kilohertz.
 pub const MAX_WIDTH: u32 = 1_000_000;
-
-/// How many margins a carrier has beside its spacing: one per field of a profile's margins.
-pub const MARGINS: usize = 4;

@@ -1,9 +1,9 @@
 ghost use Rattle.std.specs.Prelude.{◌≡◌, ◌≤◌, length, take};
-ghost use Rattle.rf_zones.specs.declared.slices.TheConstants.{MAX_CARRIERS};
+ghost use Rattle.rf_zones.specs.declared.mask.TheConstants.{MAX_CARRIERS};
 ghost use Rattle.rf_problem.specs.Problem.{members_of};
 
-use crate::together::has_bit;
 use rf_zones::Mask;
+use rf_zones::mask::has;
 
 /// The carriers below `count` whose bits a mask has, at most four, rising. They stand first; the number says how many they are.
 pub fn members(mask: Mask, count: usize) -> ([usize; 4], usize)
@@ -15,7 +15,7 @@ pub fn members(mask: Mask, count: usize) -> ([usize; 4], usize)
     let mut all = [0; 4];
     let mut len = 0;
     for c in 0..count {
-        if !has_bit(mask, c) {
+        if !has(mask, c) {
             continue;
         }
         all[len] = c;

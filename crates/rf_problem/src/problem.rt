@@ -3,18 +3,19 @@ ghost use Rattle.std.specs.List.Sorted.{IsStrictlyIncreasing};
 ghost use Rattle.rf_terms.specs.Forms.{AreFrequencies};
 ghost use Rattle.rf_terms.specs.Kinds.{roles_of};
 ghost use Rattle.rf_terms.specs.declared.kind.Kind.TheVariants as kind_of;
-ghost use Rattle.rf_zones.specs.declared.slices.TheConstants.{MAX_CARRIERS};
+ghost use Rattle.rf_terms.specs.declared.kind.TheConstants.{MARGINS};
+ghost use Rattle.rf_zones.specs.declared.mask.TheConstants.{MAX_CARRIERS};
 ghost use Rattle.rf_log.specs.Case.{Case, count_of, counts_of, freq_of, is_allowed, asked_by, margin_of, are_distinct, are_together};
 ghost use Rattle.rf_log.specs.Case as case;
-ghost use Rattle.rf_problem.specs.declared.limits.TheConstants.{MAX_CHANNELS, MAX_WIDTH, MARGINS};
+ghost use Rattle.rf_problem.specs.declared.limits.TheConstants.{MAX_CHANNELS, MAX_WIDTH};
 ghost use Rattle.rf_problem.specs.Problem.{with_carrier, case_of, members_of};
 
 use crate::carrier::Carrier;
 use crate::members::members;
-use crate::together::{all_hear, share_slice};
+use crate::together::{all_meet, share_slice};
 use rf_base::{Items, NoMemory};
 use rf_log::sets_are_tested;
-use rf_terms::Kind;
+use rf_terms::{Kind, MARGINS};
 use rf_zones::Mask;
 use std::alloc::Global;
 use std::marker::Model;
@@ -50,8 +51,9 @@ impl Problem {
     }
 
     /// Adds the next carrier: its frequencies in kilohertz, rising and at most `MAX_CHANNELS`, which of them are allowed, its
-    /// spacing and margins, each at most `MAX_WIDTH`, and a mask of the earlier carriers with which it is heard; other bits of
-    /// the mask mean nothing. `NoMemory` where no memory is found, which leaves the problem unchanged.
+    /// spacing and margins, each at most `MAX_WIDTH`, and masks of the earlier carriers with which it may be together: `heard`
+    /// in sets of three and four, `reach` in sets of two; other bits of the masks mean nothing. `NoMemory` where no memory is
+    /// found, which leaves the problem unchanged.
     pub fn add(
         &mut self,
         freqs: Vec<u32>,
@@ -59,6 +61,7 @@ impl Problem {
         spacing: u32,
         margins: &[u32],
         heard: Mask,
+        reach: Mask,
     ) -> Result<(), NoMemory>
         requires room { length self.old.carriers < MAX_CARRIERS }
         requires rising { IsStrictlyIncreasing freqs.items }
@@ -69,10 +72,10 @@ impl Problem {
         requires spaced { spacing ≤ MAX_WIDTH }
         requires whole { length margins.now ≡ MARGINS }
         requires narrow { All (λ m. m ≤ MAX_WIDTH) margins.now }
-        ensures ok { OnOk result (self.new ≡ with_carrier self.old (record { freqs = freqs.items; allowed = allowed.items; spacing = spacing; margins = margins.now; heard = heard })) }
+        ensures ok { OnOk result (self.new ≡ with_carrier self.old (record { freqs = freqs.items; allowed = allowed.items; spacing = spacing; margins = margins.now; heard = heard; reach = reach })) }
         ensures err { OnErr result (self.new ≡ self.old) }
     {
-        let carrier = carrier_of(freqs, allowed, spacing, margins, heard);
+        let carrier = carrier_of(freqs, allowed, spacing, margins, heard, reach);
         self.carriers.push(carrier)?;
         Ok(())
     }
@@ -173,7 +176,8 @@ impl Problem {
         ensures { result ≡ are_together (case_of self.now) set.now }
     {
         sets_are_tested();
-        share_slice(self.slices.as_slice(), set) && all_hear(self.carriers.as_slice(), set)
+        share_slice(self.slices.as_slice(), set)
+            && all_meet(set.len(), self.carriers.as_slice(), set)
     }
 }
 
@@ -183,6 +187,7 @@ fn carrier_of(
     spacing: u32,
     margins: &[u32],
     heard: Mask,
+    reach: Mask,
 ) -> Carrier
     requires rising { IsStrictlyIncreasing freqs.items }
     requires above { All (λ f. 1 ≤ f) freqs.items }
@@ -192,13 +197,16 @@ fn carrier_of(
     requires spaced { spacing ≤ MAX_WIDTH }
     requires whole { length margins.now ≡ MARGINS }
     requires narrow { All (λ m. m ≤ MAX_WIDTH) margins.now }
-    ensures { result ≡ record { freqs = freqs.items; allowed = allowed.items; spacing = spacing; margins = margins.now; heard = heard } }
+    ensures { result ≡ record { freqs = freqs.items; allowed = allowed.items; spacing = spacing; margins = margins.now; heard = heard; reach = reach } }
 {
+    let mut all_margins = [0; MARGINS];
+    all_margins.copy_from_slice(margins);
     Carrier {
         freqs: Items::from_vec(freqs),
         allowed: Items::from_vec(allowed),
         spacing,
-        margins: [margins[0], margins[1], margins[2], margins[3]],
+        margins: all_margins,
         heard,
+        reach,
     }
 }

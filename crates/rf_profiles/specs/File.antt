@@ -77,6 +77,7 @@ channels_at ms = option_and_then (channels_in None) (option_and_then as_array (g
 unfoldable pub is_field : List ℕ → Bool
 is_field key = bytes_eq key (codes "ranges") || bytes_eq key (codes "spacing") || bytes_eq key (codes "half")
     || bytes_eq key (codes "m2t3") || bytes_eq key (codes "m3t3") || bytes_eq key (codes "m2t5") || bytes_eq key (codes "m3t5")
+    || bytes_eq key (codes "m2t7")
 
 unfoldable pub has_further_key : Members → Bool
 has_further_key no_members = false
@@ -94,7 +95,8 @@ margins_at ms =
     and_then (ok_or (width_or_zero_at (codes "m3t3") ms) f.M3t3) (λ m3t3.
     and_then (ok_or (width_or_zero_at (codes "m2t5") ms) f.M2t5) (λ m2t5.
     and_then (ok_or (width_or_zero_at (codes "m3t5") ms) f.M3t5) (λ m3t5.
-    Ok (record { m2t3 = m2t3; m3t3 = m3t3; m2t5 = m2t5; m3t5 = m3t5 })))))
+    and_then (ok_or (width_or_zero_at (codes "m2t7") ms) f.M2t7) (λ m2t7.
+    Ok (record { m2t3 = m2t3; m3t3 = m3t3; m2t5 = m2t5; m3t5 = m3t5; m2t7 = m2t7 }))))))
 
 -- the profile in a table, or the first field that is wrong
 abbrev pub profile_with : List ℕ → Members → Result Profile Field

@@ -21,6 +21,8 @@ pub enum Field {
     M2t5,
     /// The margin of order 5 from three carriers is none.
     M3t5,
+    /// The margin of order 7 from two carriers is none.
+    M2t7,
     /// There is a further key.
     Other,
 }

@@ -24,11 +24,13 @@ pub fn margins_at(table: &Table) -> Result<Margins, Field>
     let m3t3 = width_or_zero_at(table, "m3t3").ok_or(Field::M3t3)?;
     let m2t5 = width_or_zero_at(table, "m2t5").ok_or(Field::M2t5)?;
     let m3t5 = width_or_zero_at(table, "m3t5").ok_or(Field::M3t5)?;
+    let m2t7 = width_or_zero_at(table, "m2t7").ok_or(Field::M2t7)?;
     Ok(Margins {
         m2t3,
         m3t3,
         m2t5,
         m3t5,
+        m2t7,
     })
 }
 
@@ -56,6 +58,7 @@ fn is_field(key: &str) -> bool
         || key == "m3t3"
         || key == "m2t5"
         || key == "m3t5"
+        || key == "m2t7"
 }
 
 fn value_at<'a>(table: &'a Table, key: &str) -> Option<&'a Value>

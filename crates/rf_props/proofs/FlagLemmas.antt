@@ -11,7 +11,7 @@ use Rattle.std.proofs.lemmas.List.Elements.{All-push, Contains-push, Contains-ap
 use Rattle.rf_domain.specs.Indices.{flag, IsOnly}
 use Rattle.rf_domain.proofs.Counting.{lt_cases}
 use Rattle.rf_domain.specs.Sets.{has, sizes}
-use Rattle.rf_zones.specs.declared.slices.TheConstants.{MAX_CARRIERS}
+use Rattle.rf_zones.specs.declared.mask.TheConstants.{MAX_CARRIERS}
 use Rattle.rf_props.specs.Flags.{is_flagged, AreSingles, HaveFew, AreFresh}
 use Rattle.rf_props.proofs.CountLemmas.{count_any, counts_length}
 use Rattle.rf_props.proofs.KeptLemmas.{AreSized}

@@ -11,6 +11,5 @@ pub mod LiveLemmas
 pub mod SweepLemmas
 pub mod SettleLemmas
 pub mod BanLemmas
-pub mod KindLemmas
 pub mod FlagLemmas
 pub mod RestLemmas

@@ -4,8 +4,8 @@ use Rattle.std.specs.Prelude.{Option, Some, None}
 use Rattle.std.proofs.lemmas.Bool.{true≢false}
 use Rattle.std.proofs.lemmas.Bool.Decides.{nat_tests}
 use Rattle.rf_terms.specs.declared.kind.Kind.{Kind}
-use Rattle.rf_terms.specs.declared.kind.Kind.TheVariants.{Spacing, T3Two, T3Three, T5Two, T5ThreeA, T5ThreeB}
 use Rattle.rf_terms.specs.Kinds.{roles_of}
+use Rattle.rf_terms.proofs.KindLaws.{two_roles}
 use Rattle.rf_log.specs.Case.{Case, counts_of, is_among}
 use Rattle.rf_log.specs.Box.{Box}
 use Rattle.rf_domain.specs.Sets.{has, sizes, AreWithin}
@@ -47,14 +47,6 @@ pub known_done : (case : Case) (t : Trace) (inner outer : List (List Bool)) (fla
 known_done case t inner outer flags kinds counts is sized within singles done =
     done_less case (has outer) (left t) flags kinds (sized_left case t counts) (less_by t inner outer is within) (few_of_singles case (has outer) flags (sets_sized case outer sized) singles) done
 
-two_roles : (kind : Kind) → 1 ≡ roles_of kind → ⊥
-two_roles Spacing e = omega (arith, e)
-two_roles T3Two e = omega (arith, e)
-two_roles T3Three e = omega (arith, e)
-two_roles T5Two e = omega (arith, e)
-two_roles T5ThreeA e = omega (arith, e)
-two_roles T5ThreeB e = omega (arith, e)
-
 -- no carrier is known
 pub none_few : (box : Box) (flags : List Bool) → ((c : ℕ) → is_flagged flags c ≡ false) → HaveFew box flags
 none_few box flags off = record { each = λ c j k on here there. absurd (true≢false (sym on ∙ off c)) }
@@ -69,7 +61,7 @@ none_done case t flags kinds counts off = record {
 }
   where
     some_flagged : (kind : Kind) (rest : List ℕ) → length rest + 1 ≡ roles_of kind → ((o : ℕ) → is_among rest o ≡ true → is_flagged flags o ≡ true) → ⊥
-    some_flagged kind [] whole all = two_roles kind whole
+    some_flagged kind [] whole all = omega (arith, whole, two_roles kind)
     some_flagged kind (o ∷ os) whole all = true≢false (sym (all o (grind (arith, nat_tests))) ∙ off o)
 
 -- where every single carrier is known

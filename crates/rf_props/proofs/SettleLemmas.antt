@@ -7,7 +7,7 @@ use Rattle.std.proofs.lemmas.List.{take_all}
 use Rattle.std.proofs.lemmas.List.Sums.{list_all-from_AllPass}
 use Rattle.std.proofs.lemmas.List.Elements.{Contains-get_or}
 use Rattle.rf_terms.specs.declared.kind.Kind.{Kind}
-use Rattle.rf_terms.specs.Kinds.{roles_of}
+use Rattle.rf_terms.specs.Kinds.{has_victim, roles_of}
 use Rattle.rf_log.specs.Case.{Case, count_of, counts_of, freq_of, margin_of, is_instance, is_in_order, are_distinct, are_together, is_broken, breaks}
 use Rattle.rf_log.specs.Box.{Box, only_index}
 use Rattle.rf_log.specs.Relations.{IsStruck, IsSettled, IsLiving}
@@ -16,7 +16,7 @@ use Rattle.rf_domain.proofs.Counting.{lt_cases, count_bound}
 use Rattle.rf_trail.specs.Trace.{Trace, box_of}
 use Rattle.rf_propagate.specs.Laws.{IsQuiet}
 use Rattle.rf_props.specs.Flags.{AreSingles, HaveFew}
-use Rattle.rf_props.specs.Sweeps.{left, has_at_most_one, IsClear, IsSwept, has_victim, target_role, IsKindDone, AreKindsDone, AreAllDone}
+use Rattle.rf_props.specs.Sweeps.{left, has_at_most_one, IsClear, IsSwept, target_role, IsKindDone, AreKindsDone, AreAllDone}
 use Rattle.rf_props.proofs.InsertLemmas.{insert_remove, length_remove}
 use Rattle.rf_props.proofs.SingleLemmas.{only_below-some}
 use Rattle.rf_props.proofs.StrikeLemmas.{sized_left}

@@ -16,7 +16,7 @@ use Rattle.rf_log.specs.declared.hint.Hint.TheVariants.{Rule}
 use Rattle.rf_log.specs.Case.{Case, count_of, counts_of, freq_of, margin_of, is_instance, is_among, are_distinct, is_in_order, are_together}
 use Rattle.rf_log.specs.Box.{Box, between, only_index, without}
 use Rattle.rf_log.specs.Hints.{Line, is_ruled_out}
-use Rattle.rf_zones.specs.declared.slices.TheConstants.{MAX_CARRIERS}
+use Rattle.rf_zones.specs.declared.mask.TheConstants.{MAX_CARRIERS}
 use Rattle.rf_domain.specs.Sets.{size_of}
 use Rattle.rf_trail.specs.declared.entry.Entry.{Entry}
 use Rattle.rf_trail.specs.Trace.{Trace, has_of}

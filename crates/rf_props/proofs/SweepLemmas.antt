@@ -7,9 +7,9 @@ use Rattle.std.proofs.lemmas.Bool.Decides.{nat_tests}
 use Rattle.std.proofs.lemmas.List.{append-nil, get_or_past, get_or_default, take_more_set}
 use Rattle.std.proofs.lemmas.List.Folds.{list_all-append}
 use Rattle.rf_terms.specs.declared.kind.Kind.{Kind}
-use Rattle.rf_terms.specs.declared.kind.Kind.TheVariants.{Spacing, T3Two, T3Three, T5Two, T5ThreeA, T5ThreeB}
+use Rattle.rf_terms.specs.declared.kind.Kind.TheVariants.{Spacing}
 use Rattle.rf_terms.specs.declared.kind.Margin.{Margin}
-use Rattle.rf_terms.specs.declared.kind.Margin.TheVariants.{Spacing as OfSpacing, M2t3, M3t3, M2t5, M3t5}
+use Rattle.rf_terms.specs.declared.kind.Margin.TheVariants.{Spacing as OfSpacing}
 use Rattle.rf_terms.specs.Kinds.{roles_of}
 use Rattle.rf_terms.specs.Kinds as table
 use Rattle.rf_terms.specs.Windows.{Breaks}
@@ -83,20 +83,10 @@ struck_all case flags kind place others freqs start now n so counts all size = s
       | inr beyond ↦ clear_beyond case now kind (insert others place c) c counts (omega arith)
     ]
 
-victim_at : (case : Case) (kind : Kind) (place asks : ℕ) (others : List ℕ) (c n : ℕ) → length others ≡ n + 1 → place < length others
-    → asks ≡ asked_by case kind (get_or others (length others - 1) 0) → asked_by case kind (get_or (insert others place c) (suc n) 0) ≡ asks
-victim_at case kind place asks others c n size low e =
-    let last : length others - 1 ≡ n = omega arith in
-    ap (asked_by case kind) (get_insert others place c n (omega arith) (omega arith) ∙ ap (λ i. get_or others i 0) (sym last)) ∙ sym e
-
 -- the margin of an instance is not beyond the reach
 pub margin_reach : (case : Case) (kind : Kind) (reach : ℕ) (roles : List ℕ) → IsReach case kind reach → margin_of case kind roles ≤ reach
 margin_reach case Spacing reach roles most = omega (arith, most.each (get_or roles 0 0), most.each (get_or roles 1 0))
-margin_reach case T3Two reach roles most = most.each (get_or roles 2 0)
-margin_reach case T3Three reach roles most = most.each (get_or roles 3 0)
-margin_reach case T5Two reach roles most = most.each (get_or roles 2 0)
-margin_reach case T5ThreeA reach roles most = most.each (get_or roles 3 0)
-margin_reach case T5ThreeB reach roles most = most.each (get_or roles 3 0)
+margin_reach case kind reach roles most = most.each (get_or roles (roles_of kind - 1) 0)
 
 pub reach_of_all : (case : Case) (kind : Kind) (place reach : ℕ) (others : List ℕ) → IsReach case kind reach → IsReachOf case kind place others reach
 reach_of_all case kind place reach others most = record { each = λ c. margin_reach case kind reach (insert others place c) most }
@@ -105,11 +95,9 @@ reach_of_all case kind place reach others most = record { each = λ c. margin_re
 victim_asks : (case : Case) (kind : Kind) (place asks : ℕ) (others : List ℕ) (c : ℕ) → (kind ≡ Spacing → ⊥) → length others + 1 ≡ roles_of kind → place < length others
     → asks ≡ asked_by case kind (get_or others (length others - 1) 0) → margin_of case kind (insert others place c) ≡ asks
 victim_asks case Spacing place asks others c other size low e = absurd (other refl)
-victim_asks case T3Two place asks others c other size low e = victim_at case T3Two place asks others c 1 (omega arith) low e
-victim_asks case T3Three place asks others c other size low e = victim_at case T3Three place asks others c 2 (omega arith) low e
-victim_asks case T5Two place asks others c other size low e = victim_at case T5Two place asks others c 1 (omega arith) low e
-victim_asks case T5ThreeA place asks others c other size low e = victim_at case T5ThreeA place asks others c 2 (omega arith) low e
-victim_asks case T5ThreeB place asks others c other size low e = victim_at case T5ThreeB place asks others c 2 (omega arith) low e
+victim_asks case kind place asks others c other size low e =
+    let last : roles_of kind - 1 ≡ suc (length others - 1) = omega arith in
+    ap (asked_by case kind) (ap (λ i. get_or (insert others place c) i 0) last ∙ get_insert others place c (length others - 1) (omega arith) (omega arith)) ∙ sym e
 
 pub reach_of_victim : (case : Case) (kind : Kind) (place asks : ℕ) (others : List ℕ) → (kind ≡ Spacing → ⊥) → length others + 1 ≡ roles_of kind → place < length others
     → asks ≡ asked_by case kind (get_or others (length others - 1) 0) → IsReachOf case kind place others asks
@@ -174,10 +162,7 @@ reach_more {case} {kind} {n} {reach} asks next so is e = record {
 
 unasked : (margin : Margin) → asked no_carrier margin ≡ 0
 unasked OfSpacing = refl
-unasked M2t3 = refl
-unasked M3t3 = refl
-unasked M2t5 = refl
-unasked M3t5 = refl
+unasked _ = refl
 
 pub reach_all : (case : Case) (kind : Kind) (n reach : ℕ) → length case.carriers ≤ n → ReachUpTo case kind n reach → IsReach case kind reach
 reach_all case kind n reach all so = record {

@@ -3,8 +3,7 @@ use Rattle.std.specs.Prelude.{if◌then◌else◌, ◌≡◌, ℕ, ◌+◌, ◌-
 use Rattle.std.specs.List.{list_all}
 use Rattle.std.specs.Option.{unwrap_or}
 use Rattle.rf_terms.specs.declared.kind.Kind.{Kind}
-use Rattle.rf_terms.specs.declared.kind.Kind.TheVariants.{Spacing}
-use Rattle.rf_terms.specs.Kinds.{roles_of}
+use Rattle.rf_terms.specs.Kinds.{has_victim, roles_of}
 use Rattle.rf_terms.specs.Forms.{AreFrequencies}
 use Rattle.rf_terms.specs.Windows.{Breaks}
 use Rattle.rf_log.specs.Case.{Case, count_of, freq_of, asked_by, margin_of, is_among}
@@ -44,11 +43,6 @@ pub record IsKindDone (case : Case) (has : Box) (flags : List Bool) (kind : Kind
 
 pub record AreKindsDone (case : Case) (has : Box) (flags : List Bool) (kinds : List Kind) : Type 0 where
   pub each : (kind : Kind) → Contains kinds kind → IsKindDone case has flags kind
-
--- whether the last role of the kind is a victim's
-abbrev pub has_victim : Kind → Bool
-has_victim Spacing = false
-has_victim kind = true
 
 -- the role that the target has in a turn: the victim's first, where there is one
 abbrev pub target_role : Kind → ℕ → ℕ

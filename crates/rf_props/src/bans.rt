@@ -1,7 +1,7 @@
 ghost use Rattle.std.specs.Prelude.{◌≡◌, ◌<◌, ◌≤◌, [], List, OnOk, IfOk, None, true, length};
 ghost use Rattle.rf_log.specs.Case.{count_of, counts_of};
 ghost use Rattle.rf_log.specs.Hints.{Line};
-ghost use Rattle.rf_zones.specs.declared.slices.TheConstants.{MAX_CARRIERS};
+ghost use Rattle.rf_zones.specs.declared.mask.TheConstants.{MAX_CARRIERS};
 ghost use Rattle.rf_problem.specs.Problem.{case_of};
 ghost use Rattle.rf_propagate.specs.Laws.{Extends};
 ghost use Rattle.rf_props.specs.Sweeps.{left};

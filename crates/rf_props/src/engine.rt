@@ -8,10 +8,8 @@ ghost use Rattle.rf_trail.specs.Trace.{box_of};
 ghost use Rattle.rf_propagate.specs.Laws.{Extends, IsOnPath, IsClosed};
 
 use crate::bans::Bans;
-use crate::spacing::Spacing;
+use crate::of_roles::{Spacing, ThreeSource, TwoSource};
 use crate::theory::ProblemTheory;
-use crate::three_source::ThreeSource;
-use crate::two_source::TwoSource;
 use rf_base::NoMemory;
 use rf_propagate::{Both, Engine, Outcome};
 use rf_trail::Trail;

@@ -14,7 +14,7 @@ use crate::live::Live;
 use crate::sweep::Sweep;
 use rf_base::NoMemory;
 use rf_problem::Problem;
-use rf_terms::{Kind, roles};
+use rf_terms::{Kind, has_victim, roles};
 use rf_trail::Trail;
 use std::alloc::Global;
 
@@ -120,9 +120,10 @@ fn target_role(kind: Kind, turn: usize) -> usize
     requires { turn < roles_of kind }
     ensures { result ≡ sweeps.target_role kind turn }
 {
-    match kind {
-        Kind::Spacing => turn,
-        _ => roles(kind) - 1 - turn,
+    if has_victim(kind) {
+        roles(kind) - 1 - turn
+    } else {
+        turn
     }
 }
 

@@ -1,6 +1,6 @@
 ghost use Rattle.std.specs.Prelude.{◌≡◌, ℕ, ◌+◌, ◌<◌, ◌≤◌, All, List, OnOk, false, true, insert, length, MatchOption, take};
 ghost use Rattle.rf_terms.specs.Kinds.{roles_of};
-ghost use Rattle.rf_zones.specs.declared.slices.TheConstants.{MAX_CARRIERS};
+ghost use Rattle.rf_zones.specs.declared.mask.TheConstants.{MAX_CARRIERS};
 ghost use Rattle.rf_log.specs.Case.{counts_of};
 ghost use Rattle.rf_log.specs.Hints.{Line};
 ghost use Rattle.rf_domain.specs.Indices.{between};

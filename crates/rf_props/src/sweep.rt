@@ -5,7 +5,7 @@ ghost use Rattle.rf_terms.specs.Forms.{AreFrequencies};
 ghost use Rattle.rf_log.specs.Case.{counts_of};
 ghost use Rattle.rf_log.specs.Case as case;
 ghost use Rattle.rf_log.specs.Hints.{Line};
-ghost use Rattle.rf_zones.specs.declared.slices.TheConstants.{MAX_CARRIERS};
+ghost use Rattle.rf_zones.specs.declared.mask.TheConstants.{MAX_CARRIERS};
 ghost use Rattle.rf_problem.specs.Problem.{case_of};
 ghost use Rattle.rf_propagate.specs.Laws.{Extends};
 ghost use Rattle.rf_props.specs.Flags.{is_flagged, AreFresh};

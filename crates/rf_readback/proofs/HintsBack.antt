@@ -17,7 +17,8 @@ use Rattle.rf_log.specs.Names.{number_of_name, names_with}
 use Rattle.rf_log.specs.Operands.{range_in, place_in}
 use Rattle.rf_log.specs.Reading.{cond_by, conds_in, hint_by, hints_in, roles_in, target_range_in, rule_in, no_roles}
 use Rattle.rf_readback.specs.Same.{IsSameCarrier, IsSameCond, IsSameHint}
-use Rattle.rf_readback.proofs.OperandsBack.{Says, name_back, number_back, side_back, kind_back, target_back, few_roles}
+use Rattle.rf_terms.proofs.KindLaws.{four_roles}
+use Rattle.rf_readback.proofs.OperandsBack.{Says, name_back, number_back, side_back, kind_back, target_back}
 use Rattle.rf_readback.proofs.NamesBack.{IsGrown, IsNumbered, grown_same, grown_then, numbered, same_numbered, carrier_kept, cond_kept, hint_kept}
 
 side_no_end : (inside : Bool) → bytes_eq (side_text inside) (codes ";") ≡ false
@@ -42,7 +43,7 @@ range_back lo hi words a b = let l = number_back lo a in let h = number_back hi 
 target_range_back : (kind : Kind) (target lo hi : ℕ) (words : List (List ℕ)) → target < roles_of kind → IsShort lo → IsShort hi
     → target_range_in kind (decimal (target + 1) ∷ decimal lo ∷ decimal hi ∷ words) ≡ Some ((target, lo, hi), words)
 target_range_back kind target lo hi words low a b =
-    let few = few_roles kind in
+    let few = four_roles kind in
     let role = number_back (target + 1) (omega arith) in
     rw (role.read, target_back kind target low, range_back lo hi words a b) refl
 
@@ -174,7 +175,7 @@ module _ (names : List (List ℕ)) (named : All IsName names) where
   rule_back : (others : List (List ℕ)) (kind : Kind) (roles : List ℕ) (target lo hi : ℕ) (words : List (List ℕ))
       → IsRuleBelow (length names) kind roles target → IsShort lo → IsShort hi → ReadHint others (Rule kind roles target lo hi) words
   rule_back others kind roles target lo hi words below a b =
-      let few = few_roles kind in
+      let few = four_roles kind in
       let taken = length-take (roles_of kind) roles in
       let full = below.full in
       rule_from others kind roles target lo hi words

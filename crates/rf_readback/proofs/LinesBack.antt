@@ -19,7 +19,8 @@ use Rattle.rf_log.specs.Reading.{line_by, line_in}
 use Rattle.rf_log.specs.Words.{words_in}
 use Rattle.rf_readback.specs.Same.{IsSameLine}
 use Rattle.rf_readback.proofs.WordsBack.{is_word, words_back, spaced_all, spaced_both, spaced_long}
-use Rattle.rf_readback.proofs.OperandsBack.{number_back, side_back, cut_back, kind_back, few_roles}
+use Rattle.rf_terms.proofs.KindLaws.{four_roles}
+use Rattle.rf_readback.proofs.OperandsBack.{number_back, side_back, cut_back, kind_back}
 use Rattle.rf_readback.proofs.NamesBack.{IsGrown, grown_same, grown_then, same_numbered, conds_kept}
 use Rattle.rf_readback.proofs.HintsBack.{carrier_back, carrier_numbered, conds_back, hints_back}
 
@@ -111,7 +112,7 @@ module _ (names : List (List ℕ)) (named : All IsName names) where
       rw (name.valid, l.valid, h.valid) refl
   hint_valid (Rule kind roles target lo hi) below short =
       let k = kind_back kind in
-      let few = few_roles kind in
+      let few = four_roles kind in
       let place = below.place in
       let t = number_back (target + 1) (omega arith) in
       let l = number_back lo short.0 in

@@ -10,12 +10,13 @@ use Rattle.std.proofs.lemmas.Fmt.{digits_decimal, digits_value-decimal, decimal_
 use Rattle.rf_base.specs.Decimal.{is_digits, is_whole, number_of}
 use Rattle.rf_base.specs.Name.{IsName, is_name, is_name_byte, name_of}
 use Rattle.rf_terms.specs.declared.kind.Kind.{Kind}
-use Rattle.rf_terms.specs.declared.kind.Kind.TheVariants.{Spacing, T3Two, T3Three, T5Two, T5ThreeA, T5ThreeB}
-use Rattle.rf_terms.specs.Kinds.{roles_of, text_of}
+use Rattle.rf_terms.specs.declared.kind.Kind.TheVariants.{Spacing}
+use Rattle.rf_terms.specs.Kinds.{kind_of, roles_of, text_of}
+use Rattle.rf_terms.proofs.KindLaws.{kind_read}
 use Rattle.rf_log.specs.declared.line.Cut.{Cut}
 use Rattle.rf_log.specs.declared.line.Cut.TheVariants.{Fix, Split}
 use Rattle.rf_log.specs.LineTexts.{IsShort, cut_text, side_text}
-use Rattle.rf_log.specs.Operands.{cut_of, kind_of, side_of, target_in}
+use Rattle.rf_log.specs.Operands.{cut_of, side_of, target_in}
 use Rattle.rf_readback.proofs.WordsBack.{is_word, is_word_byte}
 
 own : IsNumeralModel (λ ds. list_all is_ascii_digit ds ≡ true) (digits_value 10)
@@ -80,21 +81,13 @@ pub cut_back : (cut : Cut) → Says cut_of (cut_text cut) (Some cut)
 cut_back Fix = record { read = refl; valid = refl }
 cut_back Split = record { read = refl; valid = refl }
 
-pub kind_back : (kind : Kind) → Says kind_of (text_of kind) (Some kind)
-kind_back Spacing = record { read = refl; valid = refl }
-kind_back T3Two = record { read = refl; valid = refl }
-kind_back T3Three = record { read = refl; valid = refl }
-kind_back T5Two = record { read = refl; valid = refl }
-kind_back T5ThreeA = record { read = refl; valid = refl }
-kind_back T5ThreeB = record { read = refl; valid = refl }
+-- the text of each kind is a word
+kind_word : (kind : Kind) → is_word (text_of kind) ≡ true
+kind_word Spacing = refl
+kind_word _ = refl
 
-pub few_roles : (kind : Kind) → roles_of kind ≤ 4
-few_roles Spacing = omega arith
-few_roles T3Two = omega arith
-few_roles T3Three = omega arith
-few_roles T5Two = omega arith
-few_roles T5ThreeA = omega arith
-few_roles T5ThreeB = omega arith
+pub kind_back : (kind : Kind) → Says kind_of (text_of kind) (Some kind)
+kind_back kind = record { read = kind_read kind; valid = kind_word kind }
 
 -- roles are counted from 1
 pub target_back : (kind : Kind) (target : ℕ) → target < roles_of kind → target_in kind (target + 1) ≡ Some target

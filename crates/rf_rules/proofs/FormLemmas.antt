@@ -15,6 +15,7 @@ use Rattle.std.specs.Option.{option_and_then, option_map_or}
 use Rattle.rf_profiles.specs.Profile as profile
 use Rattle.rf_show.specs.declared.carrier.Carrier.{Carrier}
 use Rattle.std.proofs.Math.IntN.{zero-*ℤ}
+use Rattle.rf_terms.proofs.KindLaws.{four_roles, two_roles}
 use Rattle.rf_terms.specs.Kinds.{AllSmall, coefficients_of, roles_of}
 use Rattle.rf_terms.specs.Forms.{AreFrequencies, form, value_of}
 use Rattle.rf_terms.specs.declared.kind.Kind.{Kind}
@@ -70,19 +71,11 @@ khz-limited ats c h =
           omega (arith, f)
     ]
 
-pub few-roles : (kind : Kind) → roles_of kind ≤ 4
-few-roles Spacing = omega arith
-few-roles _ = omega arith
-
-pub two-roles : (kind : Kind) → 2 ≤ roles_of kind
-two-roles Spacing = omega arith
-two-roles _ = omega arith
-
 pub partial-bound : (kind : Kind) (ats : List (Option ℕ)) (t : List ℕ) → AllSmall (coefficients_of kind) → All IsLimited ats → unsigned_abs (value_of kind (khzs_in ats t)) ≤ 640000000
 partial-bound kind ats t small h =
     let fs : AreFrequencies (khzs_in ats t) = λ k d p. let e : get_or (khzs_in ats t) k d ≡ khz_in ats (get_or t k 0) = get_or-map (khz_in ats) t k 0 d (omega (arith, p, length-map t (khz_in ats))) in
     rw e (khz-limited ats (get_or t k 0) h) in
-    omega (arith, form-bound (coefficients_of kind) (khzs_in ats t) small fs, few-roles kind)
+    omega (arith, form-bound (coefficients_of kind) (khzs_in ats t) small fs, four_roles kind)
 
 -- a carrier's lane
 pub lane-is : (show : ShowData) (ats : List (Option ℕ)) (kind : Kind) (lanes : List Lane) (c : ℕ) (d : Lane) → lanes ≡ map (lane_of show ats kind) (upto (length ats)) → c < length ats → get_or lanes c d ≡ lane_of show ats kind c
@@ -96,7 +89,7 @@ lane-term show ats kind t c n =
     ap (λ k. get_or (coefficients_of kind) k (pos 0) *ℤ pos (khz_in ats c)) i
 
 pub lane-bound : (show : ShowData) (ats : List (Option ℕ)) (kind : Kind) (c : ℕ) → AllSmall (coefficients_of kind) → All IsLimited ats → unsigned_abs (lane_of show ats kind c).term ≤ 80000000
-lane-bound show ats kind c small h = abs-mul (last_coefficient kind) (pos (khz_in ats c)) (small (roles_of kind - 1) (pos 0) (omega (arith, two-roles kind))).1 (khz-limited ats c h)
+lane-bound show ats kind c small h = abs-mul (last_coefficient kind) (pos (khz_in ats c)) (small (roles_of kind - 1) (pos 0) (omega (arith, two_roles kind))).1 (khz-limited ats c h)
 
 -- the last carrier's asks, and the first's
 pub margin-push : (show : ShowData) (kind : Kind) (t : List ℕ) (c : ℕ) → length t + 1 ≡ roles_of kind → margin_of show kind (t ++ c ∷ []) ≡ max (floor_of show kind (get_or t 0 0)) (asked show kind c)

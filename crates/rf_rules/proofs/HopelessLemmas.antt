@@ -7,9 +7,10 @@ use Rattle.std.proofs.lemmas.Bool.{true≢false}
 use Rattle.std.proofs.lemmas.Bool.Decides.{nat_tests}
 use Rattle.std.proofs.lemmas.List.{get_or_append_left, get_or_at}
 use Rattle.std.proofs.lemmas.List.Folds.{list_all-append, list_any-append}
+use Rattle.rf_terms.specs.Kinds.{roles_of}
 use Rattle.rf_terms.specs.declared.kind.Kind.{Kind}
 use Rattle.rf_show.specs.Show.{ShowData}
-use Rattle.rf_show.specs.Query.{is_together}
+use Rattle.rf_show.specs.Query.{are_joined}
 use Rattle.rf_rules.specs.Instances.{are_assigned, at_in, is_candidate, is_open, is_distinct, is_in_order, is_instance, stands_in_order}
 
 and-false : (b : Bool) → (b && false) ≡ false
@@ -62,7 +63,7 @@ no-instance-distinct show kind t h = rw h
 
 no-instance-order : (show : ShowData) (kind : Kind) (t : List ℕ) → is_in_order kind t ≡ false → is_instance show kind t ≡ false
 unfolding is_instance
-no-instance-order show kind t h = rw h (and-second (is_distinct t) (is_together show t))
+no-instance-order show kind t h = rw h (and-second (is_distinct t) (are_joined show (roles_of kind) t))
 
 pub hopeless-twice : (show : ShowData) (ats : List (Option ℕ)) (kind : Kind) (t u : List ℕ) (c : ℕ) → list_any (λ y. y == c) t ≡ true → is_candidate show ats kind (t ++ c ∷ u) ≡ false
 hopeless-twice show ats kind t u c h = no-candidate show ats kind (t ++ c ∷ u) (no-instance-distinct show kind (t ++ c ∷ u) (twice t u c h))
@@ -111,7 +112,7 @@ open-both true false h = absurd (true≢false (sym h))
 open-both false d h = absurd (true≢false (sym h))
 
 -- an instance, as soon as the first roles are taken by carriers that are assigned and distinct
-pub last-joins : (show : ShowData) (ats : List (Option ℕ)) (kind : Kind) (t : List ℕ) (c : ℕ) → is_open ats t ≡ true → is_some (at_in ats c) ≡ true → list_any (λ d. d == c) t ≡ false → is_in_order kind (t ++ c ∷ []) ≡ true → is_together show (t ++ c ∷ []) ≡ is_candidate show ats kind (t ++ c ∷ [])
+pub last-joins : (show : ShowData) (ats : List (Option ℕ)) (kind : Kind) (t : List ℕ) (c : ℕ) → is_open ats t ≡ true → is_some (at_in ats c) ≡ true → list_any (λ d. d == c) t ≡ false → is_in_order kind (t ++ c ∷ []) ≡ true → are_joined show (roles_of kind) (t ++ c ∷ []) ≡ is_candidate show ats kind (t ++ c ∷ [])
 unfolding is_candidate is_instance
 last-joins show ats kind t c h some once ordered =
     let both = open-both (are_assigned ats t) (is_distinct t) h in

@@ -8,6 +8,5 @@ pub mod AnalysisLemmas
 pub mod GroupLemmas
 pub mod ProductLemmas
 pub mod SizeLemmas
-pub mod MaskLemmas
 pub mod CompanyLemmas
 pub mod PlanLemmas

@@ -1,16 +1,15 @@
 -- Lemmas on plans, and on whether one of all lists of carriers passes.
 use Rattle.std.proofs.Common.{◌≡◌, ◌≢◌, ◌<◌, ◌↔◌, ℕ, zero, suc, Bool, true, false, ◌||◌, ◌&&◌, List, [], ◌∷◌, ◌++◌, length, map, refl, ap, sym, ◌∙◌, arith, inl, inr}
-use Rattle.std.specs.Prelude.{All, not, Option, Some, None, slice_get, slice_index}
+use Rattle.std.specs.Prelude.{All, Contains, not, Option, Some, None, slice_get, slice_index}
 use Rattle.std.specs.Bool.{IsTrue}
 use Rattle.std.specs.List.{flat_map, list_all, list_any}
 use Rattle.std.proofs.lemmas.Bool.{cases_lt, true≢false}
-use Rattle.std.proofs.lemmas.Grind.{common_steps}
 use Rattle.std.proofs.lemmas.List.{append-nil, append_assoc}
-use Rattle.std.proofs.lemmas.List.Elements.{All-cons}
+use Rattle.std.proofs.lemmas.List.Elements.{All-cons, All-contains}
 use Rattle.std.proofs.lemmas.List.Folds.{list_all-append, list_any-append}
+use Rattle.rf_terms.proofs.KindLaws.{kind_listed}
 use Rattle.rf_terms.specs.Kinds.{kinds, roles_of}
 use Rattle.rf_terms.specs.declared.kind.Kind.{Kind}
-use Rattle.rf_terms.specs.declared.kind.Kind.TheVariants.{Spacing}
 use Rattle.std.specs.Option.{option_and_then, option_map_or}
 use Rattle.std.proofs.lemmas.Option.{slice_get_past}
 use Rattle.rf_profiles.specs.Channels.{channels}
@@ -127,6 +126,10 @@ any-no : {X : Type 0} (p : X → Bool) (xs : List X) → ((x : X) → p x ≡ fa
 any-no p [] h = refl
 any-no p (x ∷ xs) h = rw (h x, any-no p xs h) refl
 
+each-no : {X : Type 0} (p : X → Bool) (xs : List X) → list_any p xs ≡ false → All (λ x. p x ≡ false) xs
+each-no p [] h = λ k d low. absurd (omega (arith, low))
+each-no p (x ∷ xs) h = let both = or-parts (p x) (list_any p xs) h in All-cons (λ y. p y ≡ false) x xs both.0 (each-no p xs both.1)
+
 any-map : {X Y : Type 0} (p : Y → Bool) (f : X → Y) (xs : List X) → list_any p (map f xs) ≡ list_any (λ x. p (f x)) xs
 any-map p f [] = refl
 any-map p f (x ∷ xs) = ap (λ b. p (f x) || b) (any-map p f xs)
@@ -173,10 +176,12 @@ pub breaks-hopeless : (show : ShowData) (ats : List (Option ℕ)) (kind : Kind) 
 breaks-hopeless show ats kind t c k h =
     any-no (λ u. is_broken show ats kind ((t ++ c ∷ []) ++ u)) (tuples k (upto (length ats))) (λ u. ap (is_broken show ats kind) (append_assoc t (c ∷ []) u) ∙ broken-no_candidate show ats kind (t ++ c ∷ u) (h u))
 
+all-no : {X : Type 0} (q : X → Bool) (xs : List X) → list_any q xs ≡ false → (x : X) → Contains xs x → q x ≡ false
+all-no q xs h x there = All-contains (λ y. q y ≡ false) xs x (each-no q xs h) there
+
 -- none of the kinds is none of each
 pub kinds-out : (q : Kind → Bool) (kind : Kind) → list_any q kinds ≡ false → q kind ≡ false
-kinds-out q Spacing h = grind (arith, common_steps, h)
-kinds-out q _ h = grind (arith, common_steps, h)
+kinds-out q kind h = all-no q kinds h kind (kind_listed kind)
 
 pub kinds-none : (q : Kind → Bool) (some : List Kind) → ((kind : Kind) → q kind ≡ false) → list_any q some ≡ false
 kinds-none q some h = any-no q some h

@@ -7,7 +7,7 @@ use Rattle.std.specs.List.Sorted.{IsNonDecreasingBy, IsPermutation, IsStableByKe
 use Rattle.std.proofs.lemmas.Bool.{false≢true}
 use Rattle.std.proofs.lemmas.Bool.Decides.{nat_tests}
 use Rattle.std.proofs.lemmas.List.Sorted.{All-permutation}
-use Rattle.rf_terms.specs.Kinds.{kinds, roles_of}
+use Rattle.rf_terms.specs.Kinds.{has_victim, kinds, roles_of}
 use Rattle.rf_terms.specs.declared.kind.Kind.{Kind}
 use Rattle.rf_terms.specs.declared.kind.Kind.TheVariants.{Spacing}
 use Rattle.rf_show.specs.Show.{ShowData}
@@ -15,7 +15,7 @@ use Rattle.rf_rules.specs.Tuples.{found_in, tuples, upto}
 use Rattle.rf_rules.specs.Instances.{ats_of, is_candidate}
 use Rattle.rf_rules.specs.Tallies.{shown_of}
 use Rattle.rf_rules.specs.declared.product.Products.{Products}
-use Rattle.rf_rules.specs.Products.{all_products, has_size, has_value, has_victim, is_between, is_noted, is_value, listed, noted_of, product_at, products, products_of, size_of}
+use Rattle.rf_rules.specs.Products.{all_products, has_size, has_value, is_between, is_noted, is_value, listed, noted_of, product_at, products, products_of, size_of}
 use Rattle.rf_rules.specs.declared.product.Product.{Product}
 use Rattle.rf_rules.proofs.TupleLemmas.{found-all}
 use Rattle.rf_rules.proofs.GroupLemmas.{all-filter, filter-flat_map, filter-map, filter-same, filter-twice, groups, groups-rising, groups-same}

@@ -8,7 +8,7 @@ use Rattle.std.proofs.lemmas.List.Elements.{filter-append}
 use Rattle.std.proofs.lemmas.List.Filters.{length-filter_both}
 use Rattle.std.proofs.lemmas.Bool.{cases_lt}
 use Rattle.std.proofs.lemmas.Nat.{mul-le}
-use Rattle.std.proofs.Math.Nat.{pow-suc}
+use Rattle.std.proofs.Math.Nat.{pow-suc, pow-zero}
 use Rattle.rf_rules.specs.Tuples.{found_in, upto, tuples}
 
 -- ---- the numbers below n
@@ -56,11 +56,11 @@ length-begun k xs (x ∷ firsts) =
     let m : length ts ≡ length (tuples k xs) = length-map (tuples k xs) (λ t. x ∷ t) in
     length-append ts (begun k xs firsts) ∙ omega (arith, m, ih)
 
-pub tuples-few : {X : Type 0} (k : ℕ) (xs : List X) → length xs ≤ 128 → length (tuples k xs) ≤ 128 ^ k
-tuples-few zero xs h = omega (arith, ap length (tuples-zero xs))
-tuples-few (suc k) xs h =
-    let ih = tuples-few k xs h in
-    omega (arith, ap length (tuples-suc k xs), length-begun k xs xs, mul-le (length xs) (length (tuples k xs)) 128 (128 ^ k) h ih, pow-suc 128 k)
+pub tuples-few : {X : Type 0} (most k : ℕ) (xs : List X) → length xs ≤ most → length (tuples k xs) ≤ most ^ k
+tuples-few most zero xs h = omega (arith, ap length (tuples-zero xs), pow-zero most)
+tuples-few most (suc k) xs h =
+    let ih = tuples-few most k xs h in
+    omega (arith, ap length (tuples-suc k xs), length-begun k xs xs, mul-le (length xs) (length (tuples k xs)) most (most ^ k) h ih, pow-suc most k)
 
 -- ---- what is found
 

@@ -7,7 +7,7 @@ use Rattle.rf_terms.specs.Kinds.{order_of, roles_of}
 use Rattle.rf_terms.specs.Forms.{value_of}
 use Rattle.rf_terms.specs.declared.kind.Kind.{Kind}
 use Rattle.rf_show.specs.Show.{ShowData}
-use Rattle.rf_show.specs.Query.{is_together, margin_of}
+use Rattle.rf_show.specs.Query.{are_joined, margin_of}
 use Rattle.rf_rules.specs.Tuples.{upto, tuples}
 
 -- no carrier stands twice
@@ -27,9 +27,10 @@ is_in_order kind t = stands_in_order (order_of kind) t
 abbrev pub ordered_roles : Kind → ℕ
 ordered_roles kind = option_map_or (λ p. p.1 + 1) (order_of kind) 0
 
--- an instance of a kind: carriers that are distinct, in the order of the roles, and together
+-- an instance of a kind: carriers that are distinct, in the order of the roles, and together in a set of as many as the kind
+-- has roles. The sources of a product are judged so too, as an instance with a victim would be.
 unfoldable pub is_instance : ShowData → Kind → List ℕ → Bool
-is_instance show kind t = is_distinct t && is_in_order kind t && is_together show t
+is_instance show kind t = is_distinct t && is_in_order kind t && are_joined show (roles_of kind) t
 
 -- the frequencies at which the carriers of a show stand
 abbrev pub ats_of : ShowData → List (Option ℕ)

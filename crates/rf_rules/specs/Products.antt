@@ -1,7 +1,7 @@
 -- The intermodulation products of a show.
-use Rattle.std.specs.Prelude.{ℕ, ℤ, pos, negsuc, Bool, false, ◌+◌, ◌-◌, ◌&&◌, ◌==◌, nat_le, nat_lt, unsigned_abs, Option, List, [], length, map, filter, if◌then◌else◌}
+use Rattle.std.specs.Prelude.{ℕ, ℤ, pos, negsuc, Bool, false, ◌+◌, ◌-◌, ◌&&◌, ◌==◌, nat_le, unsigned_abs, Option, List, [], length, map, filter, if◌then◌else◌}
 use Rattle.std.specs.List.{flat_map}
-use Rattle.rf_terms.specs.Kinds.{kinds, roles_of}
+use Rattle.rf_terms.specs.Kinds.{has_victim, kinds, roles_of}
 use Rattle.rf_terms.specs.declared.kind.Kind.{Kind}
 use Rattle.rf_show.specs.Show.{ShowData}
 use Rattle.rf_rules.specs.Tuples.{found_in, tuples, upto}
@@ -12,16 +12,12 @@ use Rattle.rf_rules.specs.declared.product.Product.{Product}
 use Rattle.rf_rules.specs.declared.product.Products.{Products}
 use Rattle.rf_rules.specs.declared.search.Search.{Search}
 
--- a kind whose last role is a victim
-abbrev pub has_victim : Kind → Bool
-has_victim kind = nat_lt 2 (roles_of kind)
-
 -- the product of these sources
 abbrev pub product_at : List (Option ℕ) → Kind → List ℕ → Product
 product_at ats kind t = record { value = product_of ats kind t; kind = kind; sources = padded t }
 
--- the products of a kind over assigned sources that are distinct, in the order of the roles and together; by the first
--- source, then by the second, and so on
+-- the products of a kind over assigned sources that are distinct, in the order of the roles and together as in an instance
+-- with a victim; by the first source, then by the second, and so on
 abbrev pub products_of : ShowData → List (Option ℕ) → Kind → List Product
 products_of show ats kind =
     map (product_at ats kind) (filter (is_candidate show ats kind) (tuples (roles_of kind - 1) (upto (length ats))))

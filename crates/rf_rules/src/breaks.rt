@@ -7,6 +7,7 @@ ghost use Rattle.rf_rules.specs.Plans.{breaks_from};
 
 use crate::instance::{is_distinct, is_in_order};
 use crate::search::{Search, are_assigned};
+use rf_terms::roles;
 
 impl Search<'_> {
     /// An instance is broken whose first roles are taken by `roles[..depth]`.
@@ -67,6 +68,8 @@ impl Search<'_> {
         ensures { result ≡ instances.is_candidate self.now.show.now self.now.ats.now self.now.kind t.now }
     {
         are_assigned(self.ats, t)
-            && (is_distinct(t) && is_in_order(self.kind, t) && self.show.together(t))
+            && (is_distinct(t)
+                && is_in_order(self.kind, t)
+                && self.show.joined(roles(self.kind), t))
     }
 }

@@ -1,23 +1,29 @@
 ghost use Rattle.std.specs.Prelude.{◌≡◌, ◌<◌, ◌≤◌, ◌∷◌, ◌++◌, [], ℕ, All, IfOk, length, slice_index_or};
 ghost use Rattle.std.specs.List.{list_all, list_any};
-ghost use Rattle.rf_zones.specs.Slices.{has_bits};
+ghost use Rattle.rf_zones.specs.Masks.{has_bit, has_bits};
 ghost use Rattle.rf_show.specs.Limits.{most_carriers};
-ghost use Rattle.rf_show.specs.Query.{all_hear, hear_at, is_together};
-ghost use Rattle.rf_show.specs.Company.{has_bit};
-ghost use Rattle.rf_rules.specs.Companies.{Hears, IsCompany};
+ghost use Rattle.rf_show.specs.Query.{all_meet, are_joined, meet_at};
+ghost use Rattle.rf_rules.specs.Companies.{IsCompany, Meets, masks_of};
 
-use crate::mask::{both, either, full, has};
 use rf_base::NoMemory;
-use rf_show::{Show, hearing_is_mutual};
+use rf_show::{Show, meeting_is_mutual};
+use rf_zones::mask::{all, both, either, has_all, none};
 use rf_zones::{Mask, Slices};
 use std::alloc::Global;
 
-/// What tells quickly whether carriers of a show are together: for each carrier the mask of those that hear it, and the
-/// masks of those that are on in one minute.
+// The size of a set of two carriers.
+const PAIR: usize = 2;
+
+// The size of a set of more than two: whether carriers may be together in it is the same for all such sizes.
+const MORE: usize = 3;
+
+/// What tells quickly whether carriers of a show are together: for each carrier the mask of those that may be together with
+/// it in a set of more than two (`heard`) and in a set of two (`reach`), and the masks of those that are on in one minute.
 #[derive(Drop)]
 pub struct Company<'a> {
     pub show: &'a Show,
     pub heard: [Mask; Show::MAX_CARRIERS],
+    pub reach: [Mask; Show::MAX_CARRIERS],
     pub slices: Slices,
 }
 
@@ -29,50 +35,63 @@ impl<'a> Company<'a> {
     {
         Ok(Company {
             show,
-            heard: heard_masks(show),
+            heard: make_masks(show, MORE),
+            reach: make_masks(show, PAIR),
             slices: show.slices(alloc)?,
         })
     }
 
-    /// Some minute of the week has all of these carriers on, and each two of them hear each other.
-    #[tactic(auto, unfolding(rf_show::specs::Query::is_together))]
-    pub fn together(&self, t: &[usize]) -> bool
+    /// These carriers can stand in a set of so many that is together: some minute of the week has all of them on, and each
+    /// two of them may be together in it.
+    #[tactic(auto, unfolding(rf_show::specs::Query::are_joined))]
+    pub fn together(&self, size: usize, t: &[usize]) -> bool
         requires known { IsCompany self.now }
         requires taken { All (λ c. c < length self.now.show.now.carriers) t.now }
-        ensures { result ≡ is_together self.now.show.now t.now }
+        ensures { result ≡ are_joined self.now.show.now size t.now }
     {
-        self.all_hear(t) && self.share_minute(t)
+        self.all_meet(size, t) && self.share_minute(t)
     }
 
-    /// The carriers of which each is together with all of these.
-    pub fn mates(&self, t: &[usize]) -> Mask
+    /// The carriers of which each can stand with all of these in a set of so many that is together.
+    pub fn mates(&self, size: usize, t: &[usize]) -> Mask
         requires known { IsCompany self.now }
         requires taken { All (λ c. c < length self.now.show.now.carriers) t.now }
-        ensures { (c : ℕ) → c < length self.now.show.now.carriers → has_bit result c ≡ is_together self.now.show.now (t.now ++ c ∷ []) }
+        ensures { (c : ℕ) → c < length self.now.show.now.carriers → has_bit result c ≡ are_joined self.now.show.now size (t.now ++ c ∷ []) }
     {
-        hearing_is_mutual();
-        if !self.all_hear(t) {
-            return 0;
+        meeting_is_mutual();
+        let meeters = self.meeters(size, t);
+        if !has_all(meeters, t) {
+            return none();
         }
-        both(self.hearers(t), self.sharers(t))
+        both(meeters, self.sharers(t))
     }
 
-    // Each two of these carriers hear each other.
-    fn all_hear(&self, t: &[usize]) -> bool
+    // For each carrier those that may be together with it in a set of so many.
+    fn masks(&self, size: usize) -> &[Mask; Show::MAX_CARRIERS]
+        ensures { result.now ≡ masks_of size self.now }
+    {
+        if size <= PAIR {
+            return &self.reach;
+        }
+        &self.heard
+    }
+
+    // Each two of these carriers may be together in a set of so many.
+    fn all_meet(&self, size: usize, t: &[usize]) -> bool
         requires known { IsCompany self.now }
         requires taken { All (λ c. c < length self.now.show.now.carriers) t.now }
-        ensures { result ≡ all_hear self.now.show.now.zones self.now.show.now.carriers t.now }
+        ensures { result ≡ all_meet size self.now.show.now.zones self.now.show.now.carriers t.now }
     {
-        t.iter().all(|a| self.hears_all(*a, t))
+        t.iter().all(|a| self.meets_all(size, *a, t))
     }
 
-    fn hears_all(&self, a: usize, t: &[usize]) -> bool
+    fn meets_all(&self, size: usize, a: usize, t: &[usize]) -> bool
         requires known { IsCompany self.now }
         requires there { a < length self.now.show.now.carriers }
         requires taken { All (λ c. c < length self.now.show.now.carriers) t.now }
-        ensures { result ≡ list_all (λ b. hear_at self.now.show.now.zones self.now.show.now.carriers a b) t.now }
+        ensures { result ≡ list_all (λ b. meet_at size self.now.show.now.zones self.now.show.now.carriers a b) t.now }
     {
-        has_all(self.heard[a], t)
+        has_all(self.masks(size)[a], t)
     }
 
     // All of these carriers are on in one minute.
@@ -83,15 +102,16 @@ impl<'a> Company<'a> {
         self.slices.masks().iter().any(|mask| has_all(*mask, t))
     }
 
-    // The carriers that each of these hears.
-    fn hearers(&self, t: &[usize]) -> Mask
+    // The carriers that each of these may be together with in a set of so many.
+    fn meeters(&self, size: usize, t: &[usize]) -> Mask
         requires known { IsCompany self.now }
         requires taken { All (λ c. c < length self.now.show.now.carriers) t.now }
-        ensures { (c : ℕ) → c < length self.now.show.now.carriers → has_bit result c ≡ list_all (λ a. hear_at self.now.show.now.zones self.now.show.now.carriers a c) t.now }
+        ensures { (c : ℕ) → c < length self.now.show.now.carriers → has_bit result c ≡ list_all (λ a. meet_at size self.now.show.now.zones self.now.show.now.carriers a c) t.now }
     {
-        let mut mask = full();
+        let masks = self.masks(size);
+        let mut mask = all();
         for a in t {
-            mask = both(mask, self.heard[*a]);
+            mask = both(mask, masks[*a]);
         }
         mask
     }
@@ -101,21 +121,12 @@ impl<'a> Company<'a> {
         requires { All (λ c. c < most_carriers) t.now }
         ensures { (c : ℕ) → has_bit result c ≡ list_any (has_bits (t.now ++ c ∷ [])) self.now.slices }
     {
-        let mut mask = 0;
+        let mut mask = none();
         for slice in self.slices.masks() {
             mask = either(mask, part(*slice, t));
         }
         mask
     }
-}
-
-/// All of these carriers are of a mask.
-#[tactic(auto, unfolding(rf_show::specs::Company::has_bit))]
-fn has_all(mask: Mask, t: &[usize]) -> bool
-    requires { All (λ c. c < most_carriers) t.now }
-    ensures { result ≡ has_bits t.now mask }
-{
-    t.iter().all(|c| has(mask, *c))
 }
 
 /// A mask that has all of these carriers, and otherwise the empty one.
@@ -126,17 +137,17 @@ fn part(mask: Mask, t: &[usize]) -> Mask
     if has_all(mask, t) {
         return mask;
     }
-    0
+    none()
 }
 
-/// For each carrier those that it hears, and what fills the room behind them.
-fn heard_masks(show: &Show) -> [Mask; Show::MAX_CARRIERS]
-    ensures heard { (a : ℕ) → a < length show.now.carriers → Hears show.now a (slice_index_or result a 0) }
+/// For each carrier those that may be together with it in a set of so many, and what fills the room behind them.
+fn make_masks(show: &Show, size: usize) -> [Mask; Show::MAX_CARRIERS]
+    ensures meets { (a : ℕ) → a < length show.now.carriers → Meets show.now size a (slice_index_or result a 0) }
     ensures few { length show.now.carriers ≤ most_carriers }
 {
-    let mut masks = [0; Show::MAX_CARRIERS];
+    let mut masks = [none(); Show::MAX_CARRIERS];
     for a in 0..show.carriers().len() {
-        masks[a] = show.hearers(a);
+        masks[a] = show.meeters(size, a);
     }
     masks
 }

@@ -4,7 +4,7 @@ ghost use Rattle.rf_rules.specs.Instances as instances;
 ghost use Rattle.rf_rules.specs.Companies.{IsCompany};
 
 use crate::company::Company;
-use rf_terms::{Kind, order};
+use rf_terms::{Kind, order, roles};
 
 /// The carriers are distinct, stand in the order of the kind's roles, and are together.
 #[tactic(auto, unfolding(crate::specs::Instances::is_instance))]
@@ -14,7 +14,7 @@ pub fn is_instance(company: &Company, kind: Kind, t: &[usize]) -> bool
     requires taken { All (λ c. c < length company.now.show.now.carriers) t.now }
     ensures { result ≡ instances.is_instance company.now.show.now kind t.now }
 {
-    is_distinct(t) && is_in_order(kind, t) && company.together(t)
+    is_distinct(t) && is_in_order(kind, t) && company.together(roles(kind), t)
 }
 
 /// No carrier stands twice.

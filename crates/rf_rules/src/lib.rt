@@ -9,7 +9,6 @@ mod conflict;
 mod frequencies;
 mod instance;
 mod lane;
-mod mask;
 mod plan;
 mod product;
 mod product_list;

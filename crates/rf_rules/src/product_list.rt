@@ -13,11 +13,11 @@ use crate::search::Search;
 use crate::tally::Tally;
 use rf_base::{Items, Khz, NoMemory};
 use rf_show::Show;
-use rf_terms::{Kind, coefficients, kinds, roles};
+use rf_terms::{Kind, coefficients, has_victim, kinds};
 use std::alloc::Global;
 
-/// The intermodulation products from `lo` to `hi` of all kinds but spacing, over assigned sources that are together,
-/// whatever the margins; by value, then by kind in the order of the rule table, then by sources.
+/// The intermodulation products from `lo` to `hi` of all kinds that have a victim, over assigned sources that hear each
+/// other in a common minute, whatever the margins; by value, then by kind in the order of the rule table, then by sources.
 pub fn products(alloc: Global, show: &Show, lo: Khz, hi: Khz) -> Result<Products, NoMemory>
     ensures { IfOk result (λ r. r ≡ listed show.now lo hi) }
 {
@@ -66,7 +66,7 @@ fn add_kind(
     requires carriers { length ats.now ≡ length company.now.show.now.carriers }
     ensures { OnOk result (found.new.items ≡ found.old.items ++ noted_of company.now.show.now ats.now lo hi kind) }
 {
-    if roles(kind) <= 2 {
+    if !has_victim(kind) {
         return Ok(());
     }
     let show = company.show;

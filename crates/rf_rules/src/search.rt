@@ -7,9 +7,9 @@ ghost use Rattle.rf_rules.specs.Conflicts.{conflict_as};
 ghost use Rattle.rf_rules.specs.Tallies.{Extends};
 ghost use Rattle.rf_rules.specs.Searches.{IsReady, floor_of, broken_in, found, partial_of};
 ghost use Rattle.rf_rules.specs.Companies.{IsCompany};
-ghost use Rattle.rf_show.specs.Company.{has_bit};
+ghost use Rattle.rf_zones.specs.Masks.{has_bit};
 ghost use Rattle.rf_show.specs.Limits.{most_carriers};
-ghost use Rattle.rf_show.specs.Query.{is_together, margin_of};
+ghost use Rattle.rf_show.specs.Query.{are_joined, margin_of};
 
 use crate::arithmetic::{sum, term};
 use crate::company::Company;
@@ -17,12 +17,12 @@ use crate::conflict::Conflict;
 use crate::frequencies::{at, khz_of};
 use crate::instance::{ends_in_order, is_distinct, is_instance, is_out_of_order};
 use crate::lane::Lane;
-use crate::mask::has;
 use crate::tally::Tally;
 use rf_base::{Khz, NoMemory};
 use rf_show::Show;
 use rf_terms::Kind;
 use rf_zones::Mask;
+use rf_zones::mask::has;
 
 /// The search for the broken instances of one kind.
 #[derive(Drop)]
@@ -88,7 +88,7 @@ impl Search<'_> {
         if !self.is_open(t) {
             return Ok(());
         }
-        let mates = company.mates(t);
+        let mates = company.mates(self.coefficients.len(), t);
         let floor = self.floor(roles[0]);
         for carrier in 0..self.ats.len() {
             let distance = self.distance(t, carrier, product);
@@ -101,7 +101,7 @@ impl Search<'_> {
         Ok(())
     }
 
-    /// Adds an instance that is near. `mates` has the carriers that are together with those of the first roles.
+    /// Adds an instance that is near. `mates` has the carriers that can be together with those of the first roles.
     fn judge(
         &self,
         t: &[usize],
@@ -116,7 +116,7 @@ impl Search<'_> {
         requires carriers { length self.now.ats.now ≤ most_carriers }
         requires there { last < length self.now.ats.now }
         requires opened { is_open self.now.ats.now t.now ≡ true }
-        requires mates { has_bit mates last ≡ is_together self.now.show.now (t.now ++ last ∷ []) }
+        requires mates { has_bit mates last ≡ are_joined self.now.show.now (roles_of self.now.kind) (t.now ++ last ∷ []) }
         requires product { product ≡ partial_of self.now t.now }
         requires distance { distance ≡ distance_of self.now.ats.now self.now.kind (t.now ++ last ∷ []) }
         requires needs { needs ≡ margin_of self.now.show.now self.now.kind (t.now ++ last ∷ []) }
@@ -139,7 +139,7 @@ impl Search<'_> {
         requires carriers { length self.now.ats.now ≤ most_carriers }
         requires there { last < length self.now.ats.now }
         requires opened { is_open self.now.ats.now t.now ≡ true }
-        requires mates { has_bit mates last ≡ is_together self.now.show.now (t.now ++ last ∷ []) }
+        requires mates { has_bit mates last ≡ are_joined self.now.show.now (roles_of self.now.kind) (t.now ++ last ∷ []) }
         ensures { result ≡ is_candidate self.now.show.now self.now.ats.now self.now.kind (t.now ++ last ∷ []) }
     {
         if at(self.ats, last).is_none() {

@@ -4,10 +4,10 @@ use Rattle.std.specs.Prelude.{Contains, IsTrue}
 use Rattle.std.specs.List.{count_by}
 use Rattle.std.proofs.lemmas.Bool.{cases_Bool, and_parts, eqb-true}
 use Rattle.rf_terms.specs.declared.kind.Kind.{Kind}
-use Rattle.rf_terms.specs.declared.kind.Kind.TheVariants.{Spacing, T3Two, T3Three, T5Two, T5ThreeA, T5ThreeB}
 use Rattle.rf_log.specs.declared.cond.Cond.{Cond}
 use Rattle.rf_log.specs.declared.line.LogLine.{LogLine}
 use Rattle.rf_terms.specs.Kinds.{roles_of}
+use Rattle.rf_terms.proofs.KindLaws.{two_roles}
 use Rattle.rf_log.specs.Case.{Case, IsPlan, count_of, is_instance, breaks}
 use Rattle.rf_log.specs.Box.{Box}
 use Rattle.rf_log.specs.Relations.{members, IsSole, IsStruck}
@@ -22,14 +22,6 @@ pub record AreSole (case : Case) (box : Box) (plan : List ℕ) : Type 0 where
   pub full : length plan ≡ length case.carriers
   pub below : (c k : ℕ) → box c k ≡ true → k < count_of case c
   pub each : (c : ℕ) → c < length plan → IsSole (members box) c (slice_index plan c)
-
-some_roles : (kind : Kind) → 0 < roles_of kind
-some_roles Spacing = omega arith
-some_roles T3Two = omega arith
-some_roles T3Three = omega arith
-some_roles T5Two = omega arith
-some_roles T5ThreeA = omega arith
-some_roles T5ThreeB = omega arith
 
 pub plan_from : (case : Case) (kinds : List Kind) (box : Box) (plan : List ℕ) → HasEveryKind kinds → IsQuiet case kinds true (members box)
     → AreSole case box plan → IsPlan case plan
@@ -46,7 +38,7 @@ plan_from case kinds box plan every quiet sole = record {
     no_break : (kind : Kind) (roles : List ℕ) → IsTrue (is_instance case kind roles) → breaks case kind roles (slice_index plan) ≡ true → ⊥
     no_break kind [] inst broken =
         let size : length {A = ℕ} [] ≡ roles_of kind = eqb-true _ _ (and_parts _ _ (and_parts _ _ (and_parts _ _ (and_parts _ _ inst).0).0).0).0 in
-        absurd (omega (arith, some_roles kind, size))
+        absurd (omega (arith, two_roles kind, size))
     no_break kind (r ∷ rs) inst broken =
         let first : Contains (r ∷ rs) r = (0, omega arith, refl) in
         let low : r < length plan = omega (arith, known_role case kind (r ∷ rs) r inst first, sole.full) in

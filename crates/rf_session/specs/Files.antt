@@ -73,6 +73,7 @@ field_word field.M2t3 = codes "m2t3"
 field_word field.M3t3 = codes "m3t3"
 field_word field.M2t5 = codes "m2t5"
 field_word field.M3t5 = codes "m3t5"
+field_word field.M2t7 = codes "m2t7"
 field_word field.Other = codes "other"
 
 -- the further words of a refused file

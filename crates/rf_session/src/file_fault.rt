@@ -104,6 +104,7 @@ fn field_word(field: Field) -> &'static str
         Field::M3t3 => "m3t3",
         Field::M2t5 => "m2t5",
         Field::M3t5 => "m3t5",
+        Field::M2t7 => "m2t7",
         Field::Other => "other",
     }
 }

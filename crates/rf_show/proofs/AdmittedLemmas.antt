@@ -8,9 +8,11 @@ use Rattle.rf_profiles.specs.Range.{Span, range_of}
 use Rattle.rf_profiles.specs.declared.profile.Profile.{Profile}
 use Rattle.rf_exclusions.specs.declared.ban.Ban.{Ban}
 use Rattle.rf_exclusions.specs.declared.scan_set.ScanSet.{ScanSet}
+use Rattle.rf_zones.specs.declared.coupling.Coupling.TheVariants.{Apart, Coupled}
+use Rattle.rf_zones.specs.declared.coupling.Coupling.TheVariants.{Far as CoupledFar}
 use Rattle.rf_show.specs.declared.carrier.Carrier.{Carrier}
 use Rattle.rf_show.specs.declared.edit.Edit.{Edit}
-use Rattle.rf_show.specs.declared.edit.Edit.TheVariants.{AddProfile, AddProfiles, AddRange, DropProfile, AddZone, Couple, Uncouple, AddCarrier, Remove, AddTime, Always, SetAt, Clear, Lock, Unlock, AddBan, Unban, AddScan, Unscan, Place}
+use Rattle.rf_show.specs.declared.edit.Edit.TheVariants.{AddProfile, AddProfiles, AddRange, DropProfile, AddZone, Couple, Uncouple, Far, AddCarrier, Remove, AddTime, Always, SetAt, Clear, Lock, Unlock, AddBan, Unban, AddScan, Unscan, Place}
 use Rattle.rf_show.specs.declared.undo.Step.{Step}
 use Rattle.rf_show.specs.Limits.{most_profiles, widest}
 use Rattle.rf_show.specs.After.{change_first, edited, is_edit, new_carrier, new_scan, reasons, refusal, with_some}
@@ -40,7 +42,8 @@ narrow_with name ns ranges h =
     (and_true _ _ (width_at ns 3 5 h (omega arith))
     (and_true _ _ (width_at ns 3 6 h (omega arith))
     (and_true _ _ (width_at ns 3 7 h (omega arith))
-    (and_true _ _ (width_at ns 3 8 h (omega arith)) refl)))))
+    (and_true _ _ (width_at ns 3 8 h (omega arith))
+    (and_true _ _ (width_at ns 3 9 h (omega arith)) refl))))))
 
 -- a profile of this name whose widths are none too large, where there is one
 abbrev pub Made : List ℕ → Option Profile → Type 0
@@ -119,8 +122,9 @@ edited_kept s (DropProfile name) k ok h =
     let none = none_holds (reasons s (DropProfile name)) h in
     drop_profile_kept s name k none.1.0
 edited_kept s (AddZone name) k ok h = add_zone_kept s name k
-edited_kept s (Couple a b) k ok h = couple_kept s (zone_number s.zones a) (zone_number s.zones b) true k
-edited_kept s (Uncouple a b) k ok h = couple_kept s (zone_number s.zones a) (zone_number s.zones b) false k
+edited_kept s (Couple a b) k ok h = couple_kept s (zone_number s.zones a) (zone_number s.zones b) Coupled k
+edited_kept s (Uncouple a b) k ok h = couple_kept s (zone_number s.zones a) (zone_number s.zones b) Apart k
+edited_kept s (Far a b) k ok h = couple_kept s (zone_number s.zones a) (zone_number s.zones b) CoupledFar k
 edited_kept s (AddCarrier name profile zone) k ok h =
     let none = none_holds (reasons s (AddCarrier name profile zone)) h in
     carriers_only s _ k

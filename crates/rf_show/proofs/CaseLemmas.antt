@@ -1,5 +1,5 @@
 -- The case of a show.
-use Rattle.std.proofs.Common.{◌≡◌, ℕ, ◌-◌, ◌<◌, ◌≤◌, Bool, true, false, ◌&&◌, ◌||◌, List, [], ◌∷◌, length, map, max, get_or, Option, Some, None, refl, ap, sym, ◌∙◌, arith, inl, inr}
+use Rattle.std.proofs.Common.{◌≡◌, ℕ, ◌-◌, ◌<◌, ◌≤◌, Bool, true, false, ◌&&◌, ◌||◌, List, [], ◌∷◌, length, map, max, get_or, Option, Some, None, refl, ap, sym, ◌∙◌, arith, inl, inr, zero, suc}
 use Rattle.std.specs.Prelude.{All, slice_get, slice_index, ◌==◌}
 use Rattle.std.specs.List.{list_all, range_with_len}
 use Rattle.std.specs.Option.{option_map_or, option_and_then}
@@ -12,20 +12,22 @@ use Rattle.std.proofs.lemmas.List.FromFn.{get_or-map-range_with_len, length-map-
 use Rattle.rf_terms.specs.declared.kind.Kind.{Kind}
 use Rattle.rf_terms.specs.declared.kind.Kind.TheVariants.{Spacing}
 use Rattle.rf_terms.specs.declared.kind.Margin.{Margin}
-use Rattle.rf_terms.specs.declared.kind.Margin.TheVariants.{Spacing as OfSpacing, M2t3, M3t3, M2t5, M3t5}
 use Rattle.rf_terms.specs.Kinds as table
-use Rattle.rf_terms.specs.Kinds.{roles_of}
+use Rattle.rf_terms.specs.Kinds.{place_of, roles_of}
+use Rattle.rf_terms.proofs.KindLaws.{two_roles}
 use Rattle.rf_log.specs.Case as case
 use Rattle.rf_log.specs.Case.{Case, are_distinct, are_together, carrier_of, has_just, is_among, no_carrier}
 use Rattle.rf_log.specs.Laws.{IsOfSets, SetsAreTested}
 use Rattle.rf_profiles.specs.Channels.{channels}
+use Rattle.rf_profiles.specs.Profile as profile
+use Rattle.rf_profiles.specs.Profile.{margin_widths}
 use Rattle.rf_profiles.specs.declared.profile.Profile.{Profile}
 use Rattle.rf_zones.specs.Zones.{ZonesData}
 use Rattle.rf_zones.specs.Slices.{on_at, share_minute, some_below}
 use Rattle.rf_show.specs.declared.carrier.Carrier.{Carrier}
 use Rattle.rf_show.specs.Show.{ShowData}
 use Rattle.rf_show.specs.Query as query
-use Rattle.rf_show.specs.Query.{all_hear, channel_of, hear_at, is_together, profile_of}
+use Rattle.rf_show.specs.Query.{all_meet, are_joined, channel_of, is_together, meet_at, profile_of}
 use Rattle.rf_show.proofs.ListLemmas.{and_true, both_true}
 use Rattle.rf_show.proofs.TogetherLemmas.{tested-below}
 use Rattle.rf_show.specs.Case.{Agree, asked, case_carrier, case_of, channels_of}
@@ -65,17 +67,18 @@ allowed-case show c k low = ap (λ (x : case.Carrier). get_or x.allowed k false)
 
 -- ---- its margins
 
-some_roles : (kind : Kind) → 1 ≤ roles_of kind
-some_roles Spacing = omega arith
-some_roles _ = omega arith
+none-asked : (k : ℕ) → slice_index (0 ∷ []) k ≡ 0
+none-asked zero = refl
+none-asked (suc k) = refl
+
+asked-place : (o : Option Profile) (m : Margin) → slice_index (option_map_or (λ (p : Profile). p.spacing) o 0 ∷ option_map_or (λ (p : Profile). margin_widths p.margins) o []) (place_of m)
+    ≡ option_map_or (λ p. profile.asked p m) o 0
+asked-place None m = none-asked (place_of m)
+asked-place (Some p) m = refl
 
 asked-carrier : (show : ShowData) (c : ℕ) (m : Margin) → case.asked (case_carrier show c) m ≡ asked show c m
 unfolding case_carrier
-asked-carrier show c OfSpacing = refl
-asked-carrier show c M2t3 = refl
-asked-carrier show c M3t3 = refl
-asked-carrier show c M2t5 = refl
-asked-carrier show c M3t5 = refl
+asked-carrier show c m = asked-place (profile_of show c) m
 
 asked-case : (show : ShowData) (kind : Kind) (c : ℕ) → c < length show.carriers → case.asked_by (case_of show) kind c ≡ query.asked show kind c
 asked-case show kind c low = ap (λ x. case.asked x (table.margin_of kind)) (carrier-case show c low) ∙ asked-carrier show c (table.margin_of kind)
@@ -85,7 +88,7 @@ margin-case : (show : ShowData) (kind : Kind) (roles : List ℕ) → length role
 margin-case show Spacing roles n low =
     ap (λ a. max a (case.asked_by (case_of show) Spacing (slice_index roles 1))) (asked-case show Spacing (slice_index roles 0) (low 0 0 (omega (arith, n))))
     ∙ ap (λ a. max (query.asked show Spacing (slice_index roles 0)) a) (asked-case show Spacing (slice_index roles 1) (low 1 0 (omega (arith, n))))
-margin-case show kind roles n low = asked-case show kind (slice_index roles (roles_of kind - 1)) (low (roles_of kind - 1) 0 (omega (arith, n, some_roles kind)))
+margin-case show kind roles n low = asked-case show kind (slice_index roles (roles_of kind - 1)) (low (roles_of kind - 1) 0 (omega (arith, n, two_roles kind)))
 
 -- ---- which of them are together
 
@@ -113,22 +116,26 @@ all-among p (c ∷ cs) t h all =
 all-same : (p : ℕ → Bool) (s t : List ℕ) → list_all (is_among t) s ≡ true → list_all (is_among s) t ≡ true → list_all p s ≡ list_all p t
 all-same p s t to from = same_if _ _ (all-among p t s from) (all-among p s t to)
 
-hear-same : (zones : ZonesData) (carriers : List Carrier) (s t : List ℕ) → list_all (is_among t) s ≡ true → list_all (is_among s) t ≡ true → all_hear zones carriers s ≡ all_hear zones carriers t
-hear-same zones carriers s t to from =
-    let each : (λ a. list_all (λ b. hear_at zones carriers a b) s) ≡ (λ a. list_all (λ b. hear_at zones carriers a b) t) =
-    fun_ext (λ a. all-same (λ b. hear_at zones carriers a b) s t to from) in
-    ap (λ f. list_all f s) each ∙ all-same (λ a. list_all (λ b. hear_at zones carriers a b) t) s t to from
+meet-same : (size : ℕ) (zones : ZonesData) (carriers : List Carrier) (s t : List ℕ) → list_all (is_among t) s ≡ true → list_all (is_among s) t ≡ true
+    → all_meet size zones carriers s ≡ all_meet size zones carriers t
+meet-same size zones carriers s t to from =
+    let each : (λ a. list_all (λ b. meet_at size zones carriers a b) s) ≡ (λ a. list_all (λ b. meet_at size zones carriers a b) t) =
+    fun_ext (λ a. all-same (λ b. meet_at size zones carriers a b) s t to from) in
+    ap (λ f. list_all f s) each ∙ all-same (λ a. list_all (λ b. meet_at size zones carriers a b) t) s t to from
 
 share-same : (times : List (List (ℕ × ℕ))) (s t : List ℕ) → list_all (is_among t) s ≡ true → list_all (is_among s) t ≡ true → share_minute times s ≡ share_minute times t
 unfolding share_minute
 share-same times s t to from = ap (some_below 10080) (fun_ext (λ minute. all-same (on_at times minute) s t to from))
 
+joined-same : (show : ShowData) (size : ℕ) (s t : List ℕ) → list_all (is_among t) s ≡ true → list_all (is_among s) t ≡ true → are_joined show size s ≡ are_joined show size t
+unfolding are_joined
+joined-same show size s t to from =
+    ap (λ b. b && share_minute (map (λ (c : Carrier). c.times) show.carriers) s) (meet-same size show.zones show.carriers s t to from)
+    ∙ ap (λ b. all_meet size show.zones show.carriers t && b) (share-same (map (λ (c : Carrier). c.times) show.carriers) s t to from)
+
 together-same : (show : ShowData) → IsOfSets (is_together show)
-unfolding is_together
 together-same show = record {
-  same = λ s t to from.
-      ap (λ b. b && share_minute (map (λ (c : Carrier). c.times) show.carriers) s) (hear-same show.zones show.carriers s t to from)
-      ∙ ap (λ b. all_hear show.zones show.carriers t && b) (share-same (map (λ (c : Carrier). c.times) show.carriers) s t to from);
+  same = λ s t many to from. ap (λ size. are_joined show size s) many ∙ joined-same show (length t) s t to from;
 }
 
 together-case : SetsAreTested → (show : ShowData) (set : List ℕ) → All (λ c. c < length show.carriers) set → are_distinct set ≡ true → 2 ≤ length set → length set ≤ 4

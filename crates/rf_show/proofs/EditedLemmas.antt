@@ -9,6 +9,7 @@ use Rattle.rf_exclusions.specs.declared.ban.Ban.{Ban}
 use Rattle.rf_exclusions.specs.declared.scan_set.ScanSet.{ScanSet}
 use Rattle.rf_profiles.specs.declared.profile.Profile.{Profile}
 use Rattle.rf_zones.specs.Zones.{ZonesData, pair_place, with_zone, with_coupling}
+use Rattle.rf_zones.specs.declared.coupling.Coupling.{Coupling}
 use Rattle.rf_show.specs.declared.carrier.Carrier.{Carrier}
 use Rattle.rf_show.specs.Limits.{most_bans, most_carriers, most_profiles, most_scans}
 use Rattle.rf_show.specs.After.{change_first, remove_first, placed}
@@ -22,7 +23,7 @@ use Rattle.rf_show.proofs.NameLemmas.{differ-remove_first, differ-append, same_b
 use Rattle.rf_show.proofs.PlaceLemmas.{length-placed, map-placed, list_all-placed, placed_steady}
 
 -- whether a profile is there is seen in the names alone
-has_profile_names : (ps : List Profile) (name : List ℕ) → has_profile ps name ≡ list_any (λ n. same_name n name) (profile_names ps)
+pub has_profile_names : (ps : List Profile) (name : List ℕ) → has_profile ps name ≡ list_any (λ n. same_name n name) (profile_names ps)
 has_profile_names ps name = find_any (is_profile name) ps ∙ sym (list_any-map (λ n. same_name n name) (λ p. p.name) ps)
 
 -- ---- carriers
@@ -72,7 +73,7 @@ place_kept ps z cs ats h stay =
     })
 
 -- they belong to more profiles and zones, too
-wider_kept : (ps qs : List Profile) (z w : ZonesData) (cs : List Carrier) → ((n : List ℕ) → has_profile ps n ≡ true → has_profile qs n ≡ true) → ((n : List ℕ) → has_zone z n ≡ true → has_zone w n ≡ true) → are_carriers ps z cs ≡ true → are_carriers qs w cs ≡ true
+pub wider_kept : (ps qs : List Profile) (z w : ZonesData) (cs : List Carrier) → ((n : List ℕ) → has_profile ps n ≡ true → has_profile qs n ≡ true) → ((n : List ℕ) → has_zone z n ≡ true → has_zone w n ≡ true) → are_carriers ps z cs ≡ true → are_carriers qs w cs ≡ true
 wider_kept ps qs z w cs hp hz h =
     let k = carriers_kept ps z cs h in
     are_kept_carriers qs w cs (record {
@@ -219,10 +220,10 @@ names_cond : (b : Bool) (z w : ZonesData) → z.names ≡ w.names → (cond b z 
 names_cond true z w e = refl
 names_cond false z w e = sym e
 
-names_coupled : (z : ZonesData) (a b : ℕ) (on : Bool) → (with_coupling z a b on).names ≡ z.names
-names_coupled z a b on = names_cond (nat_eq a b) z (record z { coupled = set z.coupled (pair_place a b) on }) refl
+names_coupled : (z : ZonesData) (a b : ℕ) (coupling : Coupling) → (with_coupling z a b coupling).names ≡ z.names
+names_coupled z a b coupling = names_cond (nat_eq a b) z (record z { couplings = set z.couplings (pair_place a b) coupling }) refl
 
-pub couple_kept : (s : ShowData) (a b : ℕ) (on : Bool) → Kept s → Kept (record s { zones = with_coupling s.zones a b on })
-couple_kept s a b on k =
-    more_zones_kept s (with_coupling s.zones a b on) k
-    (λ n. λ h. ap (λ names. is_some (position (same_name n) names)) (names_coupled s.zones a b on) ∙ h)
+pub couple_kept : (s : ShowData) (a b : ℕ) (coupling : Coupling) → Kept s → Kept (record s { zones = with_coupling s.zones a b coupling })
+couple_kept s a b coupling k =
+    more_zones_kept s (with_coupling s.zones a b coupling) k
+    (λ n. λ h. ap (λ names. is_some (position (same_name n) names)) (names_coupled s.zones a b coupling) ∙ h)

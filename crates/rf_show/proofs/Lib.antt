@@ -1,5 +1,6 @@
 pub mod AdmittedLemmas
 pub mod EditedLemmas
+pub mod RaisedLemmas
 pub mod FirstLemmas
 pub mod KeptLemmas
 pub mod ListLemmas

@@ -1,5 +1,5 @@
 -- Lemmas on questions about a show.
-use Rattle.std.proofs.Common.{◌≡◌, ◌<◌, ◌≤◌, ℕ, zero, suc, Bool, true, false, cond, List, [], ◌∷◌, length, get_or, Option, Some, None, arith, inl, inr, refl, sym, ap, ◌∙◌}
+use Rattle.std.proofs.Common.{◌≡◌, ◌<◌, ◌≤◌, ℕ, Bool, true, false, cond, List, [], ◌∷◌, length, get_or, Option, Some, None, arith, inl, inr, refl, sym, ap, ◌∙◌}
 use Rattle.std.specs.Prelude.{find, is_some}
 use Rattle.std.specs.List.{list_all, list_any}
 use Rattle.std.proofs.lemmas.Bool.{false≢true, leb-true}
@@ -12,7 +12,7 @@ use Rattle.std.proofs.lemmas.Map.Views.{Contains-from_any}
 use Rattle.std.proofs.lemmas.Option.{slice_get_cases, get_or_from_slice_get}
 use Rattle.std.proofs.lemmas.List.Folds.{list_any_at}
 use Rattle.std.proofs.lemmas.List.Sums.{AllPass-from_list_all}
-use Rattle.rf_profiles.specs.Profile.{widths}
+use Rattle.rf_profiles.specs.Profile.{margin_widths}
 use Rattle.rf_profiles.specs.declared.profile.Profile.{Profile}
 use Rattle.rf_show.specs.Limits.{widest}
 use Rattle.rf_show.specs.Show.{ShowData, is_narrow, belongs, has_profile, is_profile, is_show}
@@ -62,31 +62,12 @@ found-all (p ∷ ps) name q all h =
 pub found-narrow : (show : ShowData) (name : List ℕ) (q : Profile) → is_show show ≡ true → find (is_profile name) show.profiles ≡ Some q → is_narrow q ≡ true
 found-narrow show name q h found = found-all show.profiles name q (profiles_kept show.profiles (kept show h).profiles).narrow found
 
--- the widths of a profile that asks nothing that is too wide
-pub record NarrowProfile (p : Profile) : Type 0 where
-  pub spacing : p.spacing ≤ widest
-  pub m2t3 : p.margins.m2t3 ≤ widest
-  pub m3t3 : p.margins.m3t3 ≤ widest
-  pub m2t5 : p.margins.m2t5 ≤ widest
-  pub m3t5 : p.margins.m3t5 ≤ widest
+-- what a profile that asks nothing too wide asks
+pub spacing-narrow : (p : Profile) → is_narrow p ≡ true → p.spacing ≤ widest
+spacing-narrow p h = leb-true _ _ (both_true (nat_le p.spacing widest) _ h).0
 
-pub narrow_profile : (p : Profile) → is_narrow p ≡ true → NarrowProfile p
-narrow_profile p h =
-    let each : (k : ℕ) (d : ℕ) → k < 6 → nat_le (get_or (widths p) k d) widest ≡ true = λ k d low. AllPass-from_list_all (λ n. nat_le n widest) (widths p) h k d low in
-    record {
-      spacing = leb-true _ _ (each 0 0 (omega arith));
-      m2t3 = leb-true _ _ (each 2 0 (omega arith));
-      m3t3 = leb-true _ _ (each 3 0 (omega arith));
-      m2t5 = leb-true _ _ (each 4 0 (omega arith));
-      m3t5 = leb-true _ _ (each 5 0 (omega arith));
-    }
-
-pub four-narrow : (a b c d n : ℕ) → a ≤ n → b ≤ n → c ≤ n → d ≤ n → All (λ m. m ≤ n) (a ∷ b ∷ c ∷ d ∷ [])
-four-narrow a b c d n ha hb hc hd = λ k e low. four k e low
-  where
-    four : (k e : ℕ) → k < 4 → get_or (a ∷ b ∷ c ∷ d ∷ []) k e ≤ n
-    four zero e low = ha
-    four (suc zero) e low = hb
-    four (suc (suc zero)) e low = hc
-    four (suc (suc (suc zero))) e low = hd
-    four (suc (suc (suc (suc k)))) e low = absurd (omega (arith, low))
+pub margins-narrow : (p : Profile) → is_narrow p ≡ true → All (λ m. m ≤ widest) (margin_widths p.margins)
+margins-narrow p h =
+    let all : list_all (λ n. nat_le n widest) (margin_widths p.margins) ≡ true =
+    (both_true (nat_le p.half widest) _ (both_true (nat_le p.spacing widest) _ h).1).1 in
+    λ k d low. leb-true _ _ (AllPass-from_list_all (λ n. nat_le n widest) (margin_widths p.margins) all k d low)

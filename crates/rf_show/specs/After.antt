@@ -7,9 +7,12 @@ use Rattle.rf_profiles.specs.Profile.{profile_of, differ, is_width, profile_name
 use Rattle.rf_profiles.specs.Range.{span, range_of}
 use Rattle.rf_profiles.specs.declared.profile.Profile.{Profile}
 use Rattle.rf_zones.specs.Zones.{with_zone, with_coupling}
+use Rattle.rf_zones.specs.declared.coupling.Coupling.{Coupling}
+use Rattle.rf_zones.specs.declared.coupling.Coupling.TheVariants.{Apart, Coupled}
+use Rattle.rf_zones.specs.declared.coupling.Coupling.TheVariants.{Far as CoupledFar}
 use Rattle.rf_show.specs.declared.carrier.Carrier.{Carrier}
 use Rattle.rf_show.specs.declared.edit.Edit.{Edit}
-use Rattle.rf_show.specs.declared.edit.Edit.TheVariants.{AddProfile, AddProfiles, AddRange, DropProfile, AddZone, Couple, Uncouple, AddCarrier, Remove, AddTime, Always, SetAt, Clear, Lock, Unlock, AddBan, Unban, AddScan, Unscan, Place}
+use Rattle.rf_show.specs.declared.edit.Edit.TheVariants.{AddProfile, AddProfiles, AddRange, DropProfile, AddZone, Couple, Uncouple, Far, AddCarrier, Remove, AddTime, Always, SetAt, Clear, Lock, Unlock, AddBan, Unban, AddScan, Unscan, Place}
 use Rattle.rf_show.specs.declared.refusal.Refusal.{Refusal}
 use Rattle.rf_show.specs.Reasons.{first_reason, new_profile_reasons, new_profiles_reasons, range_reasons, drop_profile_reasons, new_zone_reasons, coupling_reasons, new_carrier_reasons, named_reasons, unlocked_reasons, set_reasons, lock_reasons, time_reasons, place_reasons, new_ban_reasons, new_scan_reasons, numbered_reasons}
 use Rattle.rf_show.specs.Show.{ShowData, is_carrier, is_profile, zone_number}
@@ -44,6 +47,7 @@ reasons show (DropProfile name) = drop_profile_reasons show.profiles show.carrie
 reasons show (AddZone name) = new_zone_reasons show.zones name
 reasons show (Couple a b) = coupling_reasons show.zones a b
 reasons show (Uncouple a b) = coupling_reasons show.zones a b
+reasons show (Far a b) = coupling_reasons show.zones a b
 reasons show (AddCarrier name profile zone) = new_carrier_reasons show.profiles show.zones show.carriers name profile zone
 reasons show (Remove name) = unlocked_reasons show.carriers name
 reasons show (AddTime name from to) = time_reasons show.carriers name from to
@@ -73,10 +77,10 @@ change_carrier show name f = record show { carriers = change_first (is_carrier n
 abbrev pub change_profile : ShowData → List ℕ → (Profile → Profile) → ShowData
 change_profile show name f = record show { profiles = change_first (is_profile name) f show.profiles }
 
--- the show where two zones are coupled or not
-abbrev pub with_coupled : ShowData → List ℕ → List ℕ → Bool → ShowData
-with_coupled show a b on =
-    record show { zones = with_coupling show.zones (zone_number show.zones a) (zone_number show.zones b) on }
+-- the show where two zones stand so to each other
+abbrev pub with_coupled : ShowData → List ℕ → List ℕ → Coupling → ShowData
+with_coupled show a b coupling =
+    record show { zones = with_coupling show.zones (zone_number show.zones a) (zone_number show.zones b) coupling }
 
 -- a carrier as it is added
 abbrev pub new_carrier : List ℕ → List ℕ → List ℕ → Carrier
@@ -95,8 +99,9 @@ edited show (AddRange name from to step) =
     change_profile show name (λ p. record p { channels = p.channels ++ span from to step ∷ [] })
 edited show (DropProfile name) = record show { profiles = remove_first (is_profile name) show.profiles }
 edited show (AddZone name) = record show { zones = with_zone show.zones name }
-edited show (Couple a b) = with_coupled show a b true
-edited show (Uncouple a b) = with_coupled show a b false
+edited show (Couple a b) = with_coupled show a b Coupled
+edited show (Uncouple a b) = with_coupled show a b Apart
+edited show (Far a b) = with_coupled show a b CoupledFar
 edited show (AddCarrier name profile zone) =
     record show { carriers = show.carriers ++ new_carrier name profile zone ∷ [] }
 edited show (Remove name) = record show { carriers = remove_first (is_carrier name) show.carriers }

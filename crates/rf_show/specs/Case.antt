@@ -1,13 +1,13 @@
 -- A show as a case: what a plan of its carriers has to meet.
-use Rattle.std.specs.Prelude.{◌≡◌, ◌<◌, ◌≤◌, ℕ, true, List, [], ◌∷◌, All, length, map}
+use Rattle.std.specs.Prelude.{◌≡◌, ◌<◌, ◌≤◌, ℕ, true, List, [], All, length, map}
 use Rattle.std.specs.List.{range_with_len}
 use Rattle.std.specs.Option.{option_map_or}
 use Rattle.rf_terms.specs.declared.kind.Kind.{Kind}
 use Rattle.rf_terms.specs.declared.kind.Margin.{Margin}
-use Rattle.rf_terms.specs.declared.kind.Margin.TheVariants.{Spacing, M2t3, M3t3, M2t5, M3t5}
 use Rattle.rf_terms.specs.Kinds.{roles_of}
 use Rattle.rf_profiles.specs.Channels.{channels}
 use Rattle.rf_profiles.specs.Profile as profile
+use Rattle.rf_profiles.specs.Profile.{margin_widths}
 use Rattle.rf_log.specs.Case as case
 use Rattle.rf_log.specs.Case.{Case, are_distinct, are_together, carrier_of}
 use Rattle.rf_log.specs.Sets.{sets_that}
@@ -23,20 +23,21 @@ channels_of show c = option_map_or (λ p. channels p.channels) (profile_of show 
 abbrev pub asked : ShowData → ℕ → Margin → ℕ
 asked show c margin = option_map_or (λ p. profile.asked p margin) (profile_of show c) 0
 
+-- the spacing that a carrier's profile asks
+abbrev pub spacing_of : ShowData → ℕ → ℕ
+spacing_of show c = option_map_or (λ p. p.spacing) (profile_of show c) 0
+
 -- the margins that a carrier's profile asks, in the order of their fields
 abbrev pub margins_of : ShowData → ℕ → List ℕ
-margins_of show c = asked show c M2t3 ∷ asked show c M3t3 ∷ asked show c M2t5 ∷ asked show c M3t5 ∷ []
+margins_of show c = option_map_or (λ p. margin_widths p.margins) (profile_of show c) []
 
 -- a carrier of the case
 unfoldable pub case_carrier : ShowData → ℕ → case.Carrier
 case_carrier show c = record {
   freqs = channels_of show c;
   allowed = map (query.is_allowed show c) (range_with_len 0 (length (channels_of show c)));
-  spacing = asked show c Spacing;
-  m2t3 = asked show c M2t3;
-  m3t3 = asked show c M3t3;
-  m2t5 = asked show c M2t5;
-  m3t5 = asked show c M3t5;
+  spacing = spacing_of show c;
+  margins = margins_of show c;
 }
 
 -- the case of a show

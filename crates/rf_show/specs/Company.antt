@@ -1,18 +1,13 @@
--- Which carriers hear each other, as masks.
-use Rattle.std.specs.Prelude.{◌≡◌, ◌<◌, ℕ, Bool, true, List, ◌==◌, length}
-use Rattle.std.specs.Int.{bit_at}
+-- Which carriers may be together.
+use Rattle.std.specs.Prelude.{◌≡◌, ◌<◌, ℕ, true, List, length}
 use Rattle.rf_zones.specs.Zones.{ZonesData}
 use Rattle.rf_show.specs.declared.carrier.Carrier.{Carrier}
-use Rattle.rf_show.specs.Query.{hear_at}
+use Rattle.rf_show.specs.Query.{meet_at}
 
--- a mask has the bit of a carrier
-unfoldable pub has_bit : ℕ → ℕ → Bool
-has_bit mask carrier = bit_at mask carrier == 1
-
--- hearing goes both ways, and each carrier hears itself
+-- in a set of any size, two carriers may be together in either order, and each with itself
 pub record IsMutual (zones : ZonesData) (carriers : List Carrier) : Type 0 where
-  pub both : (a b : ℕ) → hear_at zones carriers a b ≡ hear_at zones carriers b a
-  pub own : (c : ℕ) → c < length carriers → hear_at zones carriers c c ≡ true
+  pub both : (size a b : ℕ) → meet_at size zones carriers a b ≡ meet_at size zones carriers b a
+  pub own : (size c : ℕ) → c < length carriers → meet_at size zones carriers c c ≡ true
 
-abbrev pub HearingIsMutual : Type 0
-HearingIsMutual = (zones : ZonesData) (carriers : List Carrier) → IsMutual zones carriers
+abbrev pub MeetingIsMutual : Type 0
+MeetingIsMutual = (zones : ZonesData) (carriers : List Carrier) → IsMutual zones carriers

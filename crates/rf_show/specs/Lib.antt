@@ -8,3 +8,4 @@ pub mod ZoneChange
 pub mod Query
 pub mod Company
 pub mod Case
+pub mod Raised

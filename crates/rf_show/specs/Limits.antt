@@ -1,8 +1,10 @@
 use Rattle.std.specs.Prelude.{ℕ}
+use Rattle.rf_zones.specs.declared.mask.TheConstants.{MAX_CARRIERS}
+use Rattle.rf_zones.specs.declared.zone_names.TheConstants.{MAX_ZONES}
 
 -- how many carriers a show may have
 abbrev pub most_carriers : ℕ
-most_carriers = 64
+most_carriers = MAX_CARRIERS
 
 -- how many profiles a show may have
 abbrev pub most_profiles : ℕ
@@ -10,15 +12,19 @@ most_profiles = 64
 
 -- how many zones a show may have
 abbrev pub most_zones : ℕ
-most_zones = 32
+most_zones = MAX_ZONES
 
 -- how many intervals a carrier may have
 abbrev pub most_intervals : ℕ
 most_intervals = 8
 
--- the largest spacing, half width or margin of a show, in kilohertz
+-- the largest spacing, half width or margin of a show, in kilohertz: wider than a text may give, since a show may be raised
 abbrev pub widest : ℕ
-widest = 100000
+widest = 101000
+
+-- by how much a show may be raised, in kilohertz
+abbrev pub most_raised : ℕ
+most_raised = 1000
 
 -- how many bans a show may have
 abbrev pub most_bans : ℕ

@@ -1,5 +1,5 @@
 -- Questions about a show. Carriers are places in its list.
-use Rattle.std.specs.Prelude.{ℕ, Bool, true, false, List, Option, Some, None, not, ◌&&◌, ◌||◌, ◌-◌, ◌==◌, find, map, max, slice_get, slice_index}
+use Rattle.std.specs.Prelude.{ℕ, Bool, true, false, List, Option, Some, None, not, ◌&&◌, ◌||◌, ◌-◌, ◌==◌, find, length, map, max, slice_get, slice_index}
 use Rattle.std.specs.List.{list_all, list_any}
 use Rattle.std.specs.Option.{option_and_then, option_map_or}
 use Rattle.rf_terms.specs.declared.kind.Kind.{Kind}
@@ -12,7 +12,8 @@ use Rattle.rf_exclusions.specs.declared.scan_set.ScanSet.{ScanSet}
 use Rattle.rf_profiles.specs.Channels.{channels}
 use Rattle.rf_profiles.specs.Profile as profile
 use Rattle.rf_profiles.specs.declared.profile.Profile.{Profile}
-use Rattle.rf_zones.specs.Zones.{ZonesData, heard}
+use Rattle.rf_zones.specs.Couplings.{joins}
+use Rattle.rf_zones.specs.Zones.{ZonesData, coupling_of}
 use Rattle.rf_zones.specs.Slices.{share_minute}
 use Rattle.rf_show.specs.Show.{ShowData, is_profile, zone_number}
 use Rattle.rf_show.specs.Reasons.{same_at}
@@ -78,22 +79,27 @@ is_allowed show c k = option_map_or (λ f. may_take show c f) (channel_of show c
 
 -- ---- carriers together
 
--- two carriers hear each other: their zones are the same or coupled
-abbrev pub hear : ZonesData → Carrier → Carrier → Bool
-hear zones a b = heard zones (zone_number zones a.zone) (zone_number zones b.zone)
+-- two carriers may be together in a set of so many, by their zones
+abbrev pub meet : ℕ → ZonesData → Carrier → Carrier → Bool
+meet size zones a b = joins size (coupling_of zones (zone_number zones a.zone) (zone_number zones b.zone))
 
-abbrev pub hear_at : ZonesData → List Carrier → ℕ → ℕ → Bool
-hear_at zones carriers a b =
-    option_map_or (λ c. option_map_or (λ d. hear zones c d) (slice_get carriers b) false) (slice_get carriers a) false
+abbrev pub meet_at : ℕ → ZonesData → List Carrier → ℕ → ℕ → Bool
+meet_at size zones carriers a b =
+    option_map_or (λ c. option_map_or (λ d. meet size zones c d) (slice_get carriers b) false) (slice_get carriers a) false
 
--- each two of a set hear each other
-abbrev pub all_hear : ZonesData → List Carrier → List ℕ → Bool
-all_hear zones carriers set = list_all (λ a. list_all (λ b. hear_at zones carriers a b) set) set
+-- each two of these carriers may be together in a set of so many
+abbrev pub all_meet : ℕ → ZonesData → List Carrier → List ℕ → Bool
+all_meet size zones carriers set = list_all (λ a. list_all (λ b. meet_at size zones carriers a b) set) set
 
--- some minute of the week has all of these carriers on, and each two of them hear each other
-unfoldable pub is_together : ShowData → List ℕ → Bool
-is_together show set =
-    all_hear show.zones show.carriers set && share_minute (map (λ c. c.times) show.carriers) set
+-- these carriers can stand in a set of so many that is together: some minute of the week has all of them on, and each two of
+-- them may be together in it
+unfoldable pub are_joined : ShowData → ℕ → List ℕ → Bool
+are_joined show size set =
+    all_meet size show.zones show.carriers set && share_minute (map (λ c. c.times) show.carriers) set
+
+-- a set of carriers is together
+abbrev pub is_together : ShowData → List ℕ → Bool
+is_together show set = are_joined show (length set) set
 
 -- what a carrier's profile asks of the form of a kind
 abbrev pub asked : ShowData → Kind → ℕ → ℕ

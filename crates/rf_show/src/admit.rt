@@ -19,7 +19,7 @@ use rf_zones::{Times, Zones};
 pub(crate) fn new_profile(
     profiles: &[Profile],
     name: Name,
-    numbers: &[u32; 9],
+    numbers: &[u32; Profile::NUMBERS],
 ) -> Result<(), Refusal>
     ensures { result ≡ ok_or_first (reasons.new_profile_reasons profiles.now name numbers.now) }
 {

@@ -1,32 +1,31 @@
-//! Masks of the carriers that hear each other and that are on together.
+//! Masks of the carriers that may be together and that are on together.
 
-ghost use Rattle.std.specs.Prelude.{◌≡◌, ◌<◌, ◌≤◌, ◌||◌, ◌==◌, ℕ, List, IfOk, length, map, take};
-ghost use Rattle.std.specs.Int.{bit_at};
+ghost use Rattle.std.specs.Prelude.{◌≡◌, ◌<◌, ℕ, List, IfOk, length, map, take};
 ghost use Rattle.std.specs.List.{list_any};
-ghost use Rattle.rf_zones.specs.Slices.{has_bits, share_minute};
-ghost use Rattle.rf_show.specs.Company.{HearingIsMutual, has_bit};
-ghost use Rattle.rf_show.specs.Limits.{most_carriers};
-ghost use Rattle.rf_show.specs.Query.{hear_at};
+ghost use Rattle.rf_zones.specs.Masks.{has_bit, has_bits};
+ghost use Rattle.rf_zones.specs.Slices.{share_minute};
+ghost use Rattle.rf_show.specs.Company.{MeetingIsMutual};
+ghost use Rattle.rf_show.specs.Query.{meet_at};
 
 use crate::show::Show;
 use rf_base::NoMemory;
-use rf_zones::{Mask, Slices, Times};
+use rf_zones::{Mask, Slices, Times, coupling_is_mutual, mask};
 use std::alloc::Global;
 
 impl Show {
-    /// The carriers that a carrier hears, itself among them, as a mask: bit `b` stands for carrier `b`.
-    pub fn hearers(&self, carrier: usize) -> Mask
+    /// The carriers that may be together with a carrier in a set of so many, itself among them.
+    pub fn meeters(&self, size: usize, carrier: usize) -> Mask
         requires { carrier < length self.now.carriers }
-        ensures { (b : ℕ) → b < length self.now.carriers → has_bit result b ≡ hear_at self.now.zones self.now.carriers carrier b }
+        ensures { (b : ℕ) → b < length self.now.carriers → has_bit result b ≡ meet_at size self.now.zones self.now.carriers carrier b }
     {
-        let mut mask = 0;
+        let mut meeters = mask::none();
         for b in 0..self.carriers().len() {
-            if !self.hears(carrier, b) {
+            if !self.meet(size, carrier, b) {
                 continue;
             }
-            mask = with_bit(mask, b);
+            meeters = mask::with(meeters, b);
         }
-        mask
+        meeters
     }
 
     /// Masks of the carriers that are on in a minute: carriers have a common minute exactly where one mask has all their
@@ -50,15 +49,9 @@ impl Show {
     }
 }
 
-// A mask with one bit more.
-fn with_bit(mask: Mask, bit: usize) -> Mask
-    requires { bit < most_carriers }
-    ensures { (b : ℕ) → has_bit result b ≡ (has_bit mask b || (b == bit)) }
+/// In a set of any size, two carriers may be together in either order, and each with itself.
+pub fn meeting_is_mutual()
+    ensures { MeetingIsMutual }
 {
-    mask | 1 << bit
+    coupling_is_mutual();
 }
-
-/// A carrier hears another exactly where the other hears it, and each hears itself.
-pub fn hearing_is_mutual()
-    ensures { HearingIsMutual }
-{}

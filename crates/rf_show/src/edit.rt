@@ -9,7 +9,7 @@ pub enum Edit {
     /// they make no profile; Full at 64 profiles.
     AddProfile {
         name: Name,
-        numbers: [u32; 9],
+        numbers: [u32; Profile::NUMBERS],
     },
     /// Profiles of different names, none with a spacing, half width or margin above 100,000. Taken where one of the
     /// names is there; Full where more than 64 would stand.
@@ -28,21 +28,26 @@ pub enum Edit {
     DropProfile {
         name: Name,
     },
-    /// A zone more, coupled with none. Taken; Full at 32 zones.
+    /// A zone more, apart from all others. Taken; Full at 32 zones.
     AddZone {
         name: Name,
     },
-    /// Two zones are coupled. Unknown.
+    /// Two zones are coupled, and no longer far. Unknown.
     Couple {
         a: Name,
         b: Name,
     },
-    /// Two zones aren't coupled. Unknown.
+    /// Two zones are neither coupled nor coupled far. Unknown.
     Uncouple {
         a: Name,
         b: Name,
     },
-    /// A carrier more: always on, unlocked and without a frequency. Unknown; Taken; Full at 64 carriers.
+    /// Two zones are coupled far: their carriers keep their spacing and are in no product together. Unknown.
+    Far {
+        a: Name,
+        b: Name,
+    },
+    /// A carrier more: always on, unlocked and without a frequency. Unknown; Taken; Full at 96 carriers.
     AddCarrier {
         name: Name,
         profile: Name,

@@ -16,7 +16,11 @@ use rf_base::Name;
 use rf_profiles::{Profile, Range};
 
 /// A profile of one range is added.
-pub(crate) fn with_profile(profiles: &[Profile], name: Name, numbers: &[u32; 9]) -> Change<Profile>
+pub(crate) fn with_profile(
+    profiles: &[Profile],
+    name: Name,
+    numbers: &[u32; Profile::NUMBERS],
+) -> Change<Profile>
     requires { first_reason (reasons.new_profile_reasons profiles.now name numbers.now) ≡ None }
     ensures fits { fits profiles.now result ≡ true }
     ensures there { changed profiles.now result ≡ with_some profiles.now (profile_of name numbers.now) }

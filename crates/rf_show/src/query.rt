@@ -3,18 +3,17 @@ ghost use Rattle.std.specs.Option.{option_copied};
 ghost use Rattle.rf_show.specs.Show.{is_narrow, is_profile};
 ghost use Rattle.rf_show.specs.Query as query;
 ghost use Rattle.rf_terms.specs.Kinds.{roles_of};
-ghost use Rattle.rf_terms.specs.declared.kind.Margin.{Margin};
 ghost use Rattle.rf_show.specs.Limits.{widest};
-ghost use Rattle.rf_show.specs.Case.{asked, margins_of};
+ghost use Rattle.rf_show.specs.Case.{margins_of, spacing_of};
 
 use crate::carrier::Carrier;
 use crate::exclusions::{bans_touch, scans_touch};
 use crate::find::profile_named;
 use crate::show::Show;
-use crate::together::{all_hear, hear_at};
+use crate::together::{all_meet, meet_at};
 use rf_base::Khz;
 use rf_profiles::Profile;
-use rf_terms::Kind;
+use rf_terms::{Kind, MARGINS};
 use rf_zones::share_minute;
 
 impl Show {
@@ -47,20 +46,19 @@ impl Show {
     /// The spacing that a carrier's profile asks, in kilohertz.
     pub fn spacing(&self, carrier: usize) -> u32
         requires { carrier < length self.now.carriers }
-        ensures value { result ≡ asked self.now carrier Margin.Spacing }
+        ensures value { result ≡ spacing_of self.now carrier }
         ensures narrow { result ≤ widest }
     {
         self.own_profile(carrier).spacing
     }
 
     /// The margins that a carrier's profile asks, in the order of their fields, in kilohertz.
-    pub fn margins(&self, carrier: usize) -> [u32; 4]
+    pub fn margins(&self, carrier: usize) -> [u32; MARGINS]
         requires { carrier < length self.now.carriers }
         ensures value { result ≡ margins_of self.now carrier }
         ensures narrow { All (λ m. m ≤ widest) result }
     {
-        let margins = self.own_profile(carrier).margins;
-        [margins.m2t3, margins.m3t3, margins.m2t5, margins.m3t5]
+        self.own_profile(carrier).margins.list()
     }
 
     /// A frequency is banned for a carrier: a ban or a scan touches it in the carrier's zone, under the half width of its
@@ -93,22 +91,33 @@ impl Show {
         !self.banned(carrier, khz) && may_stand(&self.carriers()[carrier], khz)
     }
 
-    /// Two carriers hear each other: their zones are the same or coupled.
-    pub fn hears(&self, a: usize, b: usize) -> bool
+    /// Two carriers may be together in a set of so many: their zones are the same or coupled, or coupled far where the set
+    /// has two.
+    pub fn meet(&self, size: usize, a: usize, b: usize) -> bool
         requires a { a < length self.now.carriers }
         requires b { b < length self.now.carriers }
-        ensures { result ≡ query.hear_at self.now.zones self.now.carriers a b }
+        ensures { result ≡ query.meet_at size self.now.zones self.now.carriers a b }
     {
-        hear_at(self.zones(), self.carriers(), a, b)
+        meet_at(self.zones(), self.carriers(), size, a, b)
     }
 
-    /// Some minute of the week has all of these carriers on, and each two of them hear each other.
-    #[tactic(auto, unfolding(crate::specs::Query::is_together))]
+    /// These carriers can stand in a set of so many that is together: some minute of the week has all of them on, and each
+    /// two of them may be together in it.
+    #[tactic(auto, unfolding(crate::specs::Query::are_joined))]
+    pub fn joined(&self, size: usize, set: &[usize]) -> bool
+        requires { All (λ c. c < length self.now.carriers) set.now }
+        ensures { result ≡ query.are_joined self.now size set.now }
+    {
+        all_meet(self.zones(), self.carriers(), size, set) && share_minute(self.carriers(), set)
+    }
+
+    /// A set of carriers is together: some minute of the week has all of them on, and each two of them may be together in a
+    /// set of so many.
     pub fn together(&self, set: &[usize]) -> bool
         requires { All (λ c. c < length self.now.carriers) set.now }
         ensures { result ≡ query.is_together self.now set.now }
     {
-        all_hear(self.zones(), self.carriers(), set) && share_minute(self.carriers(), set)
+        self.joined(set.len(), set)
     }
 
     /// How far from 0 the form of a kind must stay for these carriers, one for each role, in kilohertz: what the profile of

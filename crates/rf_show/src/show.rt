@@ -1,23 +1,25 @@
 ghost use Rattle.std.specs.Prelude.{◌≡◌, ◌≤◌, true, length, None, Some, Ok, IfOk, IfErr, OnErr, IsSome, IsTrue};
 ghost use Rattle.rf_show.specs.After.{after, edited, is_edit, refusal};
-ghost use Rattle.rf_show.specs.Limits.{most_carriers};
+ghost use Rattle.rf_show.specs.Limits.{most_carriers, most_raised};
+ghost use Rattle.rf_show.specs.Raised.{is_textual, raised};
 ghost use Rattle.rf_show.specs.Reasons.{ok_unless};
 ghost use Rattle.rf_show.specs.Show.{first_show, is_show};
 ghost use Rattle.rf_show.specs.Taken.{leads, step_fits, stepped, taken};
 
 use crate::carrier::Carrier;
 use crate::change::{Change, make_change};
+use crate::copies::{copied, copied_scans};
 use crate::edit::Edit;
-use crate::find::zone_number;
 use crate::frequencies::change_frequencies;
+use crate::raise::widen_all;
 use crate::refusal::Refusal;
 use crate::undo::{Step, Undo};
-use crate::zone_change::{ZoneChange, change_zones};
+use crate::zone_change::{ZoneChange, change_zones, with_coupling};
 use crate::{admit, carrier_steps, exclusion_steps, profile_steps};
 use rf_base::{Khz, NoMemory};
 use rf_exclusions::{Ban, ScanSet};
 use rf_profiles::{Profile, Range};
-use rf_zones::Zones;
+use rf_zones::{Coupling, Zones};
 use std::alloc::Global;
 use std::marker::Model;
 
@@ -63,6 +65,9 @@ impl Show {
     /// The largest width of a scan, in kilohertz.
     pub const MAX_SCAN_WIDTH: u32 = 100_000;
 
+    /// By how much a show may be raised, in kilohertz.
+    pub const MAX_RAISED: u32 = 1_000;
+
     /// The show with the zone `main` alone.
     pub fn new(alloc: Global) -> Result<Show, NoMemory>
         ensures { IfOk result (λ show. show ≡ first_show) }
@@ -74,6 +79,29 @@ impl Show {
             bans: Vec::with_capacity(alloc, Show::MAX_BANS)?,
             scans: Vec::with_capacity(alloc, Show::MAX_SCANS)?,
         })
+    }
+
+    /// The same show again, with room for all limits. `NoMemory` where no memory is found.
+    pub fn copy(&self, alloc: Global) -> Result<Show, NoMemory>
+        ensures { IfOk result (λ show. show ≡ self.now) }
+    {
+        Ok(Show {
+            profiles: copied(alloc, self.profiles(), Show::MAX_PROFILES)?,
+            zones: self.zones,
+            carriers: copied(alloc, self.carriers(), Show::MAX_CARRIERS)?,
+            bans: copied(alloc, self.bans(), Show::MAX_BANS)?,
+            scans: copied_scans(alloc, self.scans())?,
+        })
+    }
+
+    /// Widens each spacing and each margin that isn't 0 by `extra`, at most `MAX_RAISED`, of a show of which none is wider
+    /// than a text may give. It takes no memory.
+    pub fn raise(&mut self, extra: u32)
+        requires few { extra ≤ most_raised }
+        requires textual { is_textual self.old ≡ true }
+        ensures { self.new ≡ raised self.old extra }
+    {
+        widen_all(&mut self.profiles, extra);
     }
 
     /// Whether an edit can be made, or the first reason against it.
@@ -94,7 +122,9 @@ impl Show {
             } => admit::new_range(profiles, carriers, *name, Range::new(*from, *to, *step)),
             Edit::DropProfile { name } => admit::profile_removal(profiles, carriers, *name),
             Edit::AddZone { name } => admit::new_zone(zones, *name),
-            Edit::Couple { a, b } | Edit::Uncouple { a, b } => admit::coupling(zones, *a, *b),
+            Edit::Couple { a, b } | Edit::Uncouple { a, b } | Edit::Far { a, b } => {
+                admit::coupling(zones, *a, *b)
+            }
             Edit::AddCarrier {
                 name,
                 profile,
@@ -154,16 +184,9 @@ impl Show {
             } => Step::Profiles(profile_steps::with_range(profiles, name, from, to, step)),
             Edit::DropProfile { name } => { Step::Profiles(profile_steps::removal(profiles, name)) }
             Edit::AddZone { name } => Step::Zones(ZoneChange::PutZone { name }),
-            Edit::Couple { a, b } => Step::Zones(ZoneChange::SetCoupled {
-                a: zone_number(zones, a),
-                b: zone_number(zones, b),
-                on: true,
-            }),
-            Edit::Uncouple { a, b } => Step::Zones(ZoneChange::SetCoupled {
-                a: zone_number(zones, a),
-                b: zone_number(zones, b),
-                on: false,
-            }),
+            Edit::Couple { a, b } => Step::Zones(with_coupling(zones, a, b, Coupling::Coupled)),
+            Edit::Uncouple { a, b } => Step::Zones(with_coupling(zones, a, b, Coupling::Apart)),
+            Edit::Far { a, b } => Step::Zones(with_coupling(zones, a, b, Coupling::Far)),
             Edit::AddCarrier {
                 name,
                 profile,

@@ -1,19 +1,36 @@
-ghost use Rattle.std.specs.Prelude.{◌≡◌, ◌≤◌, true, length};
+ghost use Rattle.std.specs.Prelude.{◌≡◌, ◌≤◌, IsSome, true, length};
 ghost use Rattle.rf_show.specs.Limits.{most_zones};
 ghost use Rattle.rf_show.specs.ZoneChange.{zones_changed, zones_fit};
+ghost use Rattle.rf_show.specs.Show as of_show;
+ghost use Rattle.rf_zones.specs.Zones.{with_coupling, zone_of};
 
+use crate::find::zone_number;
 use rf_base::Name;
-use rf_zones::Zones;
+use rf_zones::{Coupling, Zones};
 
 /// A change of the zones, which another one takes back.
 #[derive(Drop)]
 pub enum ZoneChange {
-    /// A zone at the end, coupled with none.
+    /// A zone at the end, apart from all others.
     PutZone { name: Name },
     /// The last zone is taken away.
     TakeZone,
-    /// Two zones are coupled or not.
-    SetCoupled { a: u8, b: u8, on: bool },
+    /// How two zones stand to each other.
+    SetCoupling { a: u8, b: u8, coupling: Coupling },
+}
+
+/// Two named zones stand so to each other.
+pub(crate) fn with_coupling(zones: &Zones, a: Name, b: Name, coupling: Coupling) -> ZoneChange
+    requires a_there { IsSome (zone_of zones.now a) }
+    requires b_there { IsSome (zone_of zones.now b) }
+    ensures fits { zones_fit zones.now result ≡ true }
+    ensures there { zones_changed zones.now result ≡ with_coupling zones.now (of_show.zone_number zones.now a) (of_show.zone_number zones.now b) coupling }
+{
+    ZoneChange::SetCoupling {
+        a: zone_number(zones, a),
+        b: zone_number(zones, b),
+        coupling,
+    }
 }
 
 /// Makes a change, and answers the one that leads back.
@@ -36,10 +53,14 @@ pub(crate) fn change_zones(zones: &mut Zones, change: ZoneChange) -> ZoneChange
             let name = zones.drop_last();
             ZoneChange::PutZone { name }
         }
-        ZoneChange::SetCoupled { a, b, on } => {
-            let was = zones.heard(a, b);
-            zones.set_coupled(a, b, on);
-            ZoneChange::SetCoupled { a, b, on: was }
+        ZoneChange::SetCoupling { a, b, coupling } => {
+            let was = zones.coupling(a, b);
+            zones.set_coupling(a, b, coupling);
+            ZoneChange::SetCoupling {
+                a,
+                b,
+                coupling: was,
+            }
         }
     }
 }

@@ -1,16 +1,11 @@
 -- Lemmas on forms: their size, a role more, and the form with one role open.
-use Rattle.std.proofs.Common.{◌≡◌, ◌<◌, ◌≤◌, ◌*◌, ◌+◌, ℕ, ℤ, pos, ◌+ℤ◌, ◌*ℤ◌, unsigned_abs, List, [], ◌∷◌, length, get_or, take, drop, map, arith, refl, ap, ◌∙◌, suc, zero, ◌^◌, to_z, of_z, w64}
-use Rattle.std.specs.Prelude.{insert, Bool, true, nat_le, nat_lt, ◌&&◌}
-use Rattle.std.specs.List.{list_all}
-use Rattle.std.proofs.lemmas.List.Sums.{AllPass-from_list_all}
-use Rattle.std.proofs.lemmas.Bool.Decides.{nat_tests}
+use Rattle.std.proofs.Common.{◌≡◌, ◌<◌, ◌≤◌, ◌*◌, ◌+◌, ℕ, ℤ, pos, ◌+ℤ◌, ◌*ℤ◌, unsigned_abs, List, [], ◌∷◌, length, get_or, take, drop, map, arith, ap, ◌∙◌, suc, zero, ◌^◌, to_z, of_z, w64}
+use Rattle.std.specs.Prelude.{insert}
 use Rattle.std.proofs.lemmas.Int.{ints, unsigned_abs-mul, to_z-of_z, fits_signed_from_abs}
 use Rattle.std.proofs.lemmas.List.{length-take, get_or-take}
 use Rattle.std.proofs.lemmas.Nat.{mul-le}
-use Rattle.rf_terms.specs.Kinds.{AllSmall, coefficients_of, roles_of}
+use Rattle.rf_terms.specs.Kinds.{AllSmall}
 use Rattle.rf_terms.specs.Forms.{form, AreFrequencies}
-use Rattle.rf_terms.specs.declared.kind.Kind.{Kind}
-use Rattle.rf_terms.specs.declared.kind.Kind.TheVariants.{Spacing}
 
 pub abs-add : (a b : ℤ) → unsigned_abs (a +ℤ b) ≤ unsigned_abs a + unsigned_abs b
 abs-add a b = omega (arith, ints)
@@ -77,24 +72,3 @@ sum-told a b h k =
     let q : to_z w64 (of_z w64 b) ≡ b = told b (omega (arith, k)) in
     let r : to_z w64 (of_z w64 (a +ℤ b)) ≡ a +ℤ b = told (a +ℤ b) (omega (arith, h, k, abs-add a b)) in
     rw (p, q, r)
-
--- each coefficient of the table is small: the test computes, and its lemma turns it into the rule
-abbrev is-small : ℤ → Bool
-is-small c = nat_lt 0 (unsigned_abs c) && nat_le (unsigned_abs c) 8
-
-small-list : (cs : List ℤ) → list_all is-small cs ≡ true → AllSmall cs
-small-list cs h = λ k d q. let p = AllPass-from_list_all is-small cs h k d q in (grind (arith, nat_tests, p), grind (arith, nat_tests, p))
-
-table-test : (kind : Kind) → list_all is-small (coefficients_of kind) ≡ true
-table-test Spacing = refl
-table-test _ = refl
-
-pub table-small : (kind : Kind) → AllSmall (coefficients_of kind)
-table-small kind = small-list (coefficients_of kind) (table-test kind)
-
-roles-test : (kind : Kind) → (nat_le 2 (roles_of kind) && nat_le (roles_of kind) 4) ≡ true
-roles-test Spacing = refl
-roles-test _ = refl
-
-pub table-roles : (kind : Kind) → (2 ≤ roles_of kind) × (roles_of kind ≤ 4)
-table-roles kind = let p = roles-test kind in (grind (arith, nat_tests, p), grind (arith, nat_tests, p))

@@ -1,3 +1,4 @@
 pub mod Kinds
 pub mod Forms
 pub mod Windows
+pub mod Laws

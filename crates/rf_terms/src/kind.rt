@@ -1,6 +1,7 @@
 ghost use Rattle.std.specs.Prelude.{◌≡◌, ◌<◌, ◌≤◌, length, pos, slice_index_or};
 ghost use Rattle.rf_terms.specs.Kinds.{AllSmall, IsSmall};
 ghost use Rattle.rf_terms.specs.Kinds as table;
+ghost use Rattle.rf_terms.specs.declared.kind.TheConstants.{MARGINS};
 
 /// A kind of rule. Its roles are taken by distinct carriers, and its form is the sum of their frequencies, each times
 /// the coefficient of its role. The last role of every kind but `Spacing` is the victim; the others are its sources.
@@ -18,6 +19,8 @@ pub enum Kind {
     T5ThreeA,
     /// The product `2a+b-2c` keeps away from a fourth carrier.
     T5ThreeB,
+    /// The product `4a-3b` keeps away from a third carrier.
+    T7Two,
 }
 
 /// Which number of a profile is a kind's margin.
@@ -33,7 +36,12 @@ pub enum Margin {
     M2t5,
     /// The margin of products of order 5 of three carriers.
     M3t5,
+    /// The margin of products of order 7 of two carriers.
+    M2t7,
 }
+
+/// How many margins a profile has beside its spacing.
+pub const MARGINS: usize = 5;
 
 /// The kinds, in the order of the rule table.
 pub fn kinds() -> &'static [Kind]
@@ -46,7 +54,20 @@ pub fn kinds() -> &'static [Kind]
         Kind::T5Two,
         Kind::T5ThreeA,
         Kind::T5ThreeB,
+        Kind::T7Two,
     ]
+}
+
+/// The kinds with so many roles, in the order of the rule table.
+pub fn kinds_with(roles: usize) -> &'static [Kind]
+    ensures { result.now ≡ table.kinds_with roles }
+{
+    match roles {
+        2 => &[Kind::Spacing],
+        3 => &[Kind::T3Two, Kind::T5Two, Kind::T7Two],
+        4 => &[Kind::T3Three, Kind::T5ThreeA, Kind::T5ThreeB],
+        _ => &[],
+    }
 }
 
 /// The coefficients of a kind's form, in the order of its roles.
@@ -61,6 +82,7 @@ pub fn coefficients(kind: Kind) -> &'static [i64]
         Kind::T5Two => &[3, -2, -1],
         Kind::T5ThreeA => &[3, -1, -1, -1],
         Kind::T5ThreeB => &[2, 1, -2, -1],
+        Kind::T7Two => &[4, -3, -1],
     }
 }
 
@@ -70,6 +92,13 @@ pub fn roles(kind: Kind) -> usize
     ensures bounds { (2 ≤ result) × (result ≤ 4) }
 {
     coefficients(kind).len()
+}
+
+/// Whether a kind's last role is a victim.
+pub fn has_victim(kind: Kind) -> bool
+    ensures { result ≡ table.has_victim kind }
+{
+    roles(kind) > 2
 }
 
 /// The coefficient of one role, which is below `roles(kind)`.
@@ -88,7 +117,7 @@ pub fn order(kind: Kind) -> Option<(usize, usize)>
     match kind {
         Kind::Spacing | Kind::T3Three => Some((0, 1)),
         Kind::T5ThreeA => Some((1, 2)),
-        Kind::T3Two | Kind::T5Two | Kind::T5ThreeB => None,
+        Kind::T3Two | Kind::T5Two | Kind::T5ThreeB | Kind::T7Two => None,
     }
 }
 
@@ -102,6 +131,22 @@ pub fn asks(kind: Kind) -> Margin
         Kind::T3Three => Margin::M3t3,
         Kind::T5Two => Margin::M2t5,
         Kind::T5ThreeA | Kind::T5ThreeB => Margin::M3t5,
+        Kind::T7Two => Margin::M2t7,
+    }
+}
+
+/// Where a margin stands among what a profile asks: its spacing, and then its margins.
+pub fn place(margin: Margin) -> usize
+    ensures value { result ≡ table.place_of margin }
+    ensures within { result ≤ MARGINS }
+{
+    match margin {
+        Margin::Spacing => 0,
+        Margin::M2t3 => 1,
+        Margin::M3t3 => 2,
+        Margin::M2t5 => 3,
+        Margin::M3t5 => 4,
+        Margin::M2t7 => 5,
     }
 }
 
@@ -116,5 +161,6 @@ pub fn text(kind: Kind) -> &'static str
         Kind::T5Two => "3a-2b",
         Kind::T5ThreeA => "3a-b-c",
         Kind::T5ThreeB => "2a+b-2c",
+        Kind::T7Two => "4a-3b",
     }
 }

@@ -4,8 +4,13 @@
 
 mod form;
 mod kind;
+mod laws;
 mod windows;
 
 pub use form::{broken, value};
-pub use kind::{Kind, Margin, asks, coefficient, coefficients, kinds, order, roles, text};
+pub use kind::{
+    Kind, MARGINS, Margin, asks, coefficient, coefficients, has_victim, kinds, kinds_with, order,
+    place, roles, text,
+};
+pub use laws::kinds_keep_their_laws;
 pub use windows::window;

@@ -1,6 +1,6 @@
 -- What holds of each command that some line has: its names are names, and its numbers are short.
-use Rattle.std.proofs.Common.{◌≡◌, ◌<◌, ℕ, zero, suc, List, [], ◌∷◌, true, length, refl, ap, Some, None, Ok, subst}
-use Rattle.std.specs.Prelude.{◌^◌, nat_abs, IfSome, IsTrue, option_and_then, ok_or}
+use Rattle.std.proofs.Common.{◌≡◌, ◌<◌, ◌++◌, ℕ, zero, suc, List, [], ◌∷◌, true, length, length-append, arith, refl, ap, Some, None, Ok, subst}
+use Rattle.std.specs.Prelude.{◌^◌, nat_abs, unwrap_or, IfSome, IsTrue, option_and_then, ok_or}
 use Rattle.std.specs.declared.option.Option.{Option}
 use Rattle.rf_base.specs.declared.decimal.Decimal.{Decimal}
 use Rattle.rf_base.specs.Decimal.{number_of}
@@ -17,7 +17,7 @@ use Rattle.rf_text.specs.declared.verb.Verb.TheVariants as verb
 use Rattle.rf_text.specs.Words.{words_of}
 use Rattle.rf_text.specs.Decimals.{decimal_in}
 use Rattle.rf_text.specs.Separators.{sep_of}
-use Rattle.rf_text.specs.Operands.{at_most_one, first, many, one, two, three, ◌>>=◌}
+use Rattle.rf_text.specs.Operands.{at_most_one, fewest_numbers, first, one, profile_numbers, several, two, three, ◌>>=◌}
 use Rattle.rf_text.specs.Edits.{edit_by, exclusion_by, setup_by}
 use Rattle.rf_text.specs.Commands.{bare, command_by, command_in, command_of, command_with, scan_by, IsAskable}
 use Rattle.rf_text.specs.Verbs.{verb_of}
@@ -41,13 +41,14 @@ AreShort [] = Unit {0}
 AreShort (n ∷ ns) = IsShort n × AreShort ns
 
 abbrev pub IsSaidEdit : Edit → Type 0
-IsSaidEdit (edit.AddProfile name numbers) = IsNamed name × ((length numbers ≡ 9) × AreShort numbers)
+IsSaidEdit (edit.AddProfile name numbers) = IsNamed name × ((length numbers ≡ suc fewest_numbers) × AreShort numbers)
 IsSaidEdit (edit.AddProfiles list) = ⊥
 IsSaidEdit (edit.AddRange name from to step) = IsNamed name × (IsShort from × IsShort to × IsShort step)
 IsSaidEdit (edit.DropProfile name) = IsNamed name
 IsSaidEdit (edit.AddZone name) = IsNamed name
 IsSaidEdit (edit.Couple a b) = IsNamed a × IsNamed b
 IsSaidEdit (edit.Uncouple a b) = IsNamed a × IsNamed b
+IsSaidEdit (edit.Far a b) = IsNamed a × IsNamed b
 IsSaidEdit (edit.AddCarrier name profile zone) = IsNamed name × IsNamed profile × IsNamed zone
 IsSaidEdit (edit.Remove name) = IsNamed name
 IsSaidEdit (edit.AddTime name from to) = IsNamed name × IsShort from × IsShort to
@@ -121,15 +122,37 @@ if_three {A} {B} {C} reads next last P Q R p q r words =
     (if_weaker (λ w. P w.0 × (Q w.1.0 × R w.1.1)) (λ w. P w.0 × Q w.1.0 × R w.1.1) (first reads (two next last) words) (λ w h. (h.0, h.1.0, h.1.1))
     (if_first reads (two next last) P (λ w. Q w.0 × R w.1) p (if_two next last Q R q r) words))
 
-numbers_said : (count : ℕ) (words : List (List ℕ)) → IfSome (many count number_of words) (λ ns. (length ns ≡ count) × AreShort ns)
-unfolding many
-numbers_said zero [] = (refl, tt)
-numbers_said zero (word ∷ words) = tt
-numbers_said (suc count) words =
-    if_map (λ w. w.0 ∷ w.1) (λ ns. (length ns ≡ suc count) × AreShort ns) (first number_of (many count number_of) words)
-    (if_weaker (λ w. IsShort w.0 × ((length w.1 ≡ count) × AreShort w.1)) (λ w. (suc (length w.1) ≡ suc count) × (IsShort w.0 × AreShort w.1)) (first number_of (many count number_of) words)
-    (λ w h. (ap suc h.1.0, (h.0, h.1.1)))
-    (if_first number_of (many count number_of) IsShort (λ ns. (length ns ≡ count) × AreShort ns) number_read (numbers_said count) words))
+-- so many numbers, and others after them
+if_several : {B : Type 0} (others : List (List ℕ) → Option B) (Q : B → Type 0) → ((words : List (List ℕ)) → IfSome (others words) Q)
+    → (count : ℕ) (words : List (List ℕ)) → IfSome (several count number_of others words) (λ w. ((length w.0 ≡ count) × AreShort w.0) × Q w.1)
+unfolding several
+if_several others Q q zero words =
+    if_map (λ more. ([], more)) (λ w. ((length w.0 ≡ zero) × AreShort w.0) × Q w.1) (others words) (if_weaker Q _ (others words) (λ _ h. ((refl, tt), h)) (q words))
+if_several others Q q (suc count) words =
+    if_map (λ w. (w.0 ∷ w.1.0, w.1.1)) (λ w. ((length w.0 ≡ suc count) × AreShort w.0) × Q w.1) (first number_of (several count number_of others) words)
+    (if_weaker (λ w. IsShort w.0 × (((length w.1.0 ≡ count) × AreShort w.1.0) × Q w.1.1)) (λ w. ((suc (length w.1.0) ≡ suc count) × (IsShort w.0 × AreShort w.1.0)) × Q w.1.1)
+    (first number_of (several count number_of others) words) (λ w h. ((ap suc h.1.0.0, (h.0, h.1.0.1)), h.1.1))
+    (if_first number_of (several count number_of others) IsShort (λ w. ((length w.0 ≡ count) × AreShort w.0) × Q w.1) number_read (if_several others Q q count) words))
+
+-- the numbers of a profile
+abbrev AreNumbers : List ℕ → Type 0
+AreNumbers ns = (length ns ≡ suc fewest_numbers) × AreShort ns
+
+pub short_last : (front : List ℕ) (x : ℕ) → AreShort front → IsShort x → AreShort (front ++ x ∷ [])
+short_last [] x h k = (k, tt)
+short_last (n ∷ front) x h k = (h.0, short_last front x h.1 k)
+
+or_zero : (last : Option ℕ) → IfSome last IsShort → IsShort (unwrap_or last 0)
+or_zero None h = omega arith
+or_zero (Some n) h = h
+
+numbers_said : (words : List (List ℕ)) → IfSome (profile_numbers words) AreNumbers
+unfolding profile_numbers
+numbers_said words =
+    if_map (λ w. w.0 ++ unwrap_or w.1 0 ∷ []) AreNumbers (several fewest_numbers number_of (at_most_one number_of) words)
+    (if_weaker (λ w. ((length w.0 ≡ fewest_numbers) × AreShort w.0) × IfSome w.1 IsShort) (λ w. AreNumbers (w.0 ++ unwrap_or w.1 0 ∷ [])) _
+    (λ w h. (let long = length-append w.0 (unwrap_or w.1 0 ∷ []) in omega (arith, long, h.0.0), short_last w.0 (unwrap_or w.1 0) h.0.1 (or_zero w.1 h.1)))
+    (if_several (at_most_one number_of) (λ last. IfSome last IsShort) (if_at_most_one number_of IsShort number_read) fewest_numbers words))
 
 one_name : (words : List (List ℕ)) → IfSome (one name_of words) IsNamed
 one_name = if_one name_of IsNamed name_read
@@ -151,7 +174,7 @@ exclusion_said _ words = tt
 
 setup_said : (v : Verb) (words : List (List ℕ)) → IfSome (setup_by v words) IsSaidEdit
 unfolding setup_by
-setup_said verb.Profile words = if_map (λ w. edit.AddProfile w.0 w.1) IsSaidEdit _ (if_first name_of (many 9 number_of) IsNamed (λ ns. (length ns ≡ 9) × AreShort ns) name_read (numbers_said 9) words)
+setup_said verb.Profile words = if_map (λ w. edit.AddProfile w.0 w.1) IsSaidEdit _ (if_first name_of profile_numbers IsNamed AreNumbers name_read numbers_said words)
 setup_said verb.Range words = if_map (λ w. edit.AddRange w.0 w.1.0 w.1.1 w.1.2) IsSaidEdit _
     (if_first name_of (three number_of number_of number_of) IsNamed (λ w. IsShort w.0 × IsShort w.1 × IsShort w.2) name_read
     (if_three number_of number_of number_of IsShort IsShort IsShort number_read number_read number_read) words)
@@ -159,6 +182,7 @@ setup_said verb.DropProfile words = if_map (λ name. edit.DropProfile name) IsSa
 setup_said verb.Zone words = if_map (λ name. edit.AddZone name) IsSaidEdit _ (one_name words)
 setup_said verb.Couple words = if_map (λ w. edit.Couple w.0 w.1) IsSaidEdit _ (two_names words)
 setup_said verb.Uncouple words = if_map (λ w. edit.Uncouple w.0 w.1) IsSaidEdit _ (two_names words)
+setup_said verb.Far words = if_map (λ w. edit.Far w.0 w.1) IsSaidEdit _ (two_names words)
 setup_said v words = exclusion_said v words
 
 edit_said : (v : Verb) (words : List (List ℕ)) → IfSome (edit_by v words) IsSaidEdit

@@ -13,6 +13,7 @@ pub mod RunLemmas
 pub mod SeparatorsBack
 pub mod ShowLemmas
 pub mod ShowMade
+pub mod TextualLemmas
 pub mod WordLemmas
 pub mod WordsBack
 pub mod ZonesMade

@@ -10,24 +10,28 @@ use Rattle.rf_base.specs.Khz.{IsKhz}
 use Rattle.rf_base.specs.Name.{IsName}
 use Rattle.rf_exclusions.specs.declared.scan_set.ScanSet.{ScanSet}
 use Rattle.rf_profiles.specs.Channels.{RisesFrom}
-use Rattle.rf_profiles.specs.Profile.{widths}
+use Rattle.rf_profiles.specs.Profile.{is_width, widths}
 use Rattle.rf_profiles.specs.Range.{IsRange, Span}
 use Rattle.rf_profiles.specs.declared.profile.Profile.{Profile}
 use Rattle.rf_zones.specs.Times.{is_interval}
-use Rattle.rf_zones.specs.Zones.{ZonesData, is_coupled}
+use Rattle.rf_zones.specs.Zones.{ZonesData}
+use Rattle.rf_zones.specs.declared.coupling.Coupling.{Coupling}
+use Rattle.rf_zones.specs.declared.coupling.Coupling.TheVariants.{Apart, Coupled, Far}
 use Rattle.rf_show.specs.declared.carrier.Carrier.{Carrier}
-use Rattle.rf_show.specs.Limits.{widest, widest_scan}
-use Rattle.rf_show.specs.Show.{ShowData, first_show, has_zone, is_narrow, is_scan, is_threshold}
+use Rattle.rf_show.specs.Limits.{widest_scan}
+use Rattle.rf_show.specs.Show.{ShowData, first_show, has_zone, is_scan, is_threshold}
 use Rattle.rf_text.specs.declared.command.Command.{Command}
+use Rattle.rf_text.specs.declared.command.Command.TheVariants.{Change}
 use Rattle.rf_text.specs.Commands.{command_in, command_with}
 use Rattle.rf_text.specs.CommandTexts.{command_text_of, command_words}
 use Rattle.rf_base.specs.Lines.{joined}
 use Rattle.rf_text.specs.ShowLaw.{HotPointsOf, IsBan, IsCarrier, IsProfile, IsScan, IsShowOver, LinesMakeShow, after_command, after_lines}
-use Rattle.rf_text.specs.Shows.{at_lines, carrier_lines, couple_lines, coupling, couplings_of, lock_lines, profile_lines, range_line, ranges_lines, scan_line, show_lines, time_line, zone_line, zone_name, ban_line}
+use Rattle.rf_text.specs.Shows.{at_lines, carrier_lines, couple_lines, coupling_edit, far_lines, lock_lines, pair_line, pairs_that, pairs_with, profile_lines, range_line, ranges_lines, scan_line, show_lines, stand, time_line, zone_line, zone_name, ban_line}
 use Rattle.rf_text.specs.Words.{is_word}
 use Rattle.rf_text.proofs.CommandsBack.{said_back}
 use Rattle.rf_text.proofs.CommandsSaid.{AreShort, IsFiled, IsNamed, IsSaid, IsShort}
 use Rattle.rf_text.proofs.MadeLemmas.{made}
+use Rattle.rf_text.proofs.ProfilesMade.{is_worded}
 use Rattle.rf_text.proofs.ShowMade.{commands_make_show, kept_of}
 use Rattle.rf_text.proofs.WordsBack.{words_back}
 
@@ -106,39 +110,44 @@ lt_of a b h = grind (arith, nat_tests)
 zone_named : (zones : ZonesData) (z : ℕ) → AllByRecursion IsName zones.names → z < length zones.names → IsNamed (zone_name zones z)
 zone_named zones z h inside = named _ (all_at IsName zones.names z [] h inside)
 
-couplings_said : (zones : ZonesData) → AllByRecursion IsName zones.names → (a : ℕ) → a < length zones.names → AllByRecursion IsSaid (couplings_of zones a)
-couplings_said zones names a inside =
-    all_map (λ b. b < length zones.names) IsSaid (coupling zones a) (filter (is_coupled zones a) (range_with_len (a + 1) (length zones.names - (a + 1))))
-    (all_filter (λ b. b < length zones.names) (is_coupled zones a) _ (all_range (a + 1) (length zones.names - (a + 1)) (length zones.names) (omega arith)))
-    (λ b h. (zone_named zones a names inside, zone_named zones b names h))
+pair_said : (c : Coupling) (a b : List ℕ) → IsNamed a → IsNamed b → IsSaid (Change (coupling_edit c a b))
+pair_said Apart a b h k = (h, k)
+pair_said Coupled a b h k = (h, k)
+pair_said Far a b h k = (h, k)
+
+pairs_with_said : (c : Coupling) (zones : ZonesData) → AllByRecursion IsName zones.names → (a : ℕ) → a < length zones.names → AllByRecursion IsSaid (pairs_with c zones a)
+pairs_with_said c zones names a inside =
+    all_map (λ b. b < length zones.names) IsSaid (pair_line c zones a) (filter (stand c zones a) (range_with_len (a + 1) (length zones.names - (a + 1))))
+    (all_filter (λ b. b < length zones.names) (stand c zones a) _ (all_range (a + 1) (length zones.names - (a + 1)) (length zones.names) (omega arith)))
+    (λ b h. pair_said c _ _ (zone_named zones a names inside) (zone_named zones b names h))
 
 zones_said : (zones : ZonesData) → AllByRecursion IsName zones.names → AllByRecursion IsSaid (map zone_line (drop 1 zones.names))
 zones_said zones names = all_map IsName IsSaid zone_line (drop 1 zones.names) (all_drop IsName 1 zones.names names) named
 
-couples_said : (zones : ZonesData) → AllByRecursion IsName zones.names → AllByRecursion IsSaid (couple_lines zones)
-couples_said zones names =
-    all_flat (λ a. a < length zones.names) IsSaid (couplings_of zones) (range_with_len 0 (length zones.names)) (all_range 0 (length zones.names) (length zones.names) (omega arith))
-    (couplings_said zones names)
+pairs_said : (c : Coupling) (zones : ZonesData) → AllByRecursion IsName zones.names → AllByRecursion IsSaid (pairs_that c zones)
+pairs_said c zones names =
+    all_flat (λ a. a < length zones.names) IsSaid (pairs_with c zones) (range_with_len 0 (length zones.names)) (all_range 0 (length zones.names) (length zones.names) (omega arith))
+    (pairs_with_said c zones names)
 
-narrow_short : (ns : List ℕ) → list_all (λ n. nat_le n widest) ns ≡ true → AreShort ns
-narrow_short [] h = tt
-narrow_short (n ∷ ns) h = let p = and_parts (nat_le n widest) (list_all (λ n. nat_le n widest) ns) h in (omega (arith, le_of n widest p.0), narrow_short ns p.1)
+widths_short : (ns : List ℕ) → list_all is_width ns ≡ true → AreShort ns
+widths_short [] h = tt
+widths_short (n ∷ ns) h = let p = and_parts (is_width n) (list_all is_width ns) h in (omega (arith, le_of n 100000 p.0), widths_short ns p.1)
 
 rises_all : (last : ℕ) (ranges : List Span) → RisesFrom last ranges → AllByRecursion IsRange ranges
 rises_all last [] h = tt
 rises_all last (r ∷ ranges) h = (h.0, rises_all r.to ranges h.2)
 
-ranges_said : (p : Profile) (ranges : List Span) → IsName p.name → is_narrow p ≡ true → AllByRecursion IsRange ranges → AllByRecursion IsSaid (ranges_lines p ranges)
-ranges_said p [] name narrow h = tt
-ranges_said p (r ∷ ranges) name narrow h = (
-  (named p.name name, (refl, (short r.from h.0.low, (short r.to h.0.high, (short r.step h.0.stride, narrow_short (widths p) narrow))))),
+ranges_said : (p : Profile) (ranges : List Span) → IsName p.name → is_worded p ≡ true → AllByRecursion IsRange ranges → AllByRecursion IsSaid (ranges_lines p ranges)
+ranges_said p [] name worded h = tt
+ranges_said p (r ∷ ranges) name worded h = (
+  (named p.name name, (refl, (short r.from h.0.low, (short r.to h.0.high, (short r.step h.0.stride, widths_short (widths p) worded))))),
   all_map IsRange IsSaid (range_line p.name) ranges h.1 (λ q v. (named p.name name, (short q.from v.low, short q.to v.high, short q.step v.stride))),
 )
 
-profiles_said : (profiles : List Profile) → list_all is_narrow profiles ≡ true → AllByRecursion IsProfile profiles → AllByRecursion IsSaid (flat_map profile_lines profiles)
-profiles_said [] narrow h = tt
-profiles_said (p ∷ profiles) narrow h =
-    let n = and_parts (is_narrow p) (list_all is_narrow profiles) narrow in
+profiles_said : (profiles : List Profile) → list_all is_worded profiles ≡ true → AllByRecursion IsProfile profiles → AllByRecursion IsSaid (flat_map profile_lines profiles)
+profiles_said [] worded h = tt
+profiles_said (p ∷ profiles) worded h =
+    let n = and_parts (is_worded p) (list_all is_worded profiles) worded in
     all_both IsSaid (profile_lines p) (flat_map profile_lines profiles) (ranges_said p p.channels h.0.0 n.0 (rises_all 0 p.channels h.0.1.rising)) (profiles_said profiles n.1 h.1)
 
 if_named : (zone : Option (List ℕ)) → IfSome zone IsName → IfSome zone IsNamed
@@ -186,11 +195,12 @@ show_said : (hot : HotPointsOf) (show : ShowData) → IsShowOver hot show → Al
 show_said hot show w =
     let k = kept_of show w.kept in
     all_both IsSaid (map zone_line (drop 1 show.zones.names)) _ (zones_said show.zones w.zone_names)
-    (all_both IsSaid (couple_lines show.zones) _ (couples_said show.zones w.zone_names)
-    (all_both IsSaid (flat_map profile_lines show.profiles) _ (profiles_said show.profiles k.narrow w.profiles)
+    (all_both IsSaid (couple_lines show.zones) _ (pairs_said Coupled show.zones w.zone_names)
+    (all_both IsSaid (far_lines show.zones) _ (pairs_said Far show.zones w.zone_names)
+    (all_both IsSaid (flat_map profile_lines show.profiles) _ (profiles_said show.profiles w.textual w.profiles)
     (all_both IsSaid (map ban_line show.bans) _ (all_map IsBan IsSaid ban_line show.bans w.bans (λ b h. (short b.lo h.low, (short b.hi h.high, if_named b.zone h.zone))))
     (all_both IsSaid (map scan_line show.scans) (flat_map carrier_lines show.carriers) (scans_said show.zones hot show.scans k.scans w.scans)
-    (all_flat IsCarrier IsSaid carrier_lines show.carriers w.carriers carrier_said)))))
+    (all_flat IsCarrier IsSaid carrier_lines show.carriers w.carriers carrier_said))))))
 
 pub lines_make : LinesMakeShow
 lines_make hot show w = lines_read hot first_show (show_lines show) (show_said hot show w) ∙ commands_make_show hot show w

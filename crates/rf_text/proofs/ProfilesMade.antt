@@ -8,13 +8,13 @@ use Rattle.std.proofs.lemmas.Bool.Decides.{nat_tests}
 use Rattle.std.proofs.lemmas.List.Concat.{flat_map-append}
 use Rattle.rf_base.specs.Name.{same_name}
 use Rattle.rf_profiles.specs.Channels.{IsChannels, RisesFrom, channels, last_to, most_channels, most_ranges, with_range}
-use Rattle.rf_profiles.specs.Profile.{differ, profile_names, profile_of, widths}
+use Rattle.rf_profiles.specs.Profile.{differ, is_width, profile_names, profile_of, widths}
 use Rattle.rf_profiles.specs.Range.{IsRange, Span, frequencies, range_of}
 use Rattle.rf_profiles.specs.declared.profile.Profile.{Profile}
 use Rattle.rf_show.specs.declared.edit.Edit.TheVariants as edit
 use Rattle.rf_show.specs.After.{after, change_first}
 use Rattle.rf_show.specs.Limits.{most_profiles}
-use Rattle.rf_show.specs.Show.{ShowData, is_narrow, is_profile}
+use Rattle.rf_show.specs.Show.{ShowData, is_profile}
 use Rattle.rf_text.specs.ShowLaw.{HotPointsOf, IsProfile}
 use Rattle.rf_text.specs.Shows.{profile_lines, range_line, ranges_lines}
 use Rattle.rf_text.proofs.MadeLemmas.{fits_not, khz_is, made, made_all}
@@ -81,11 +81,15 @@ range_is r h =
     let ordered : nat_le r.from r.to ≡ true = le_is r.from r.to h.ordered in
     rw (khz_is r.from h.low, khz_is r.to h.high, khz_is r.step h.stride, ordered) refl
 
+-- no spacing, half width or margin is wider than a text may give
+abbrev pub is_worded : Profile → Bool
+is_worded p = list_all is_width (widths p)
+
 -- the profile with these ranges
 abbrev with_channels : Profile → List Span → Profile
 with_channels p ranges = record p { channels = ranges }
 
-profile_step : (s : ShowData) (p : Profile) (r : Span) → list_any (is_profile p.name) s.profiles ≡ false → is_narrow p ≡ true → IsRange r
+profile_step : (s : ShowData) (p : Profile) (r : Span) → list_any (is_profile p.name) s.profiles ≡ false → is_worded p ≡ true → IsRange r
     → length (frequencies r) ≤ most_channels → length s.profiles < most_profiles
     → after s (edit.AddProfile p.name (r.from ∷ r.to ∷ r.step ∷ widths p)) ≡ Ok (record s { profiles = s.profiles ++ with_channels p (r ∷ []) ∷ [] })
 profile_step s p r new narrow valid few room =
@@ -127,7 +131,7 @@ ranges_made hot s done p have (r ∷ more) none new rising few many =
     rw step (rw whole at rest)
 
 profile_made : (hot : HotPointsOf) (s : ShowData) (done : List Profile) (p : Profile) (ranges : List Span) → s.carriers ≡ [] → list_any (is_profile p.name) done ≡ false
-    → is_narrow p ≡ true → IsChannels ranges → length done < most_profiles
+    → is_worded p ≡ true → IsChannels ranges → length done < most_profiles
     → made hot (record s { profiles = done }) (ranges_lines p ranges) ≡ Some (record s { profiles = done ++ with_channels p ranges ∷ [] })
 profile_made hot s done p [] none new narrow valid room = absurd (omega (arith, valid.some))
 profile_made hot s done p (r ∷ ranges) none new narrow valid room =
@@ -135,12 +139,12 @@ profile_made hot s done p (r ∷ ranges) none new narrow valid room =
     let step = profile_step (record s { profiles = done }) p r new narrow valid.rising.0 first room in
     rw step (ranges_made hot s done p (r ∷ []) ranges none new valid.rising valid.few valid.many)
 
-pub profiles_made : (hot : HotPointsOf) (s : ShowData) (done rest : List Profile) → s.carriers ≡ [] → differ (profile_names (done ++ rest)) ≡ true → list_all is_narrow rest ≡ true
+pub profiles_made : (hot : HotPointsOf) (s : ShowData) (done rest : List Profile) → s.carriers ≡ [] → differ (profile_names (done ++ rest)) ≡ true → list_all is_worded rest ≡ true
     → AllByRecursion IsProfile rest → length done + length rest ≤ most_profiles
     → made hot (record s { profiles = done }) (flat_map profile_lines rest) ≡ Some (record s { profiles = done ++ rest })
 profiles_made hot s done [] none names narrow valid room = rw append-nil refl
 profiles_made hot s done (p ∷ rest) none names narrow valid room =
-    let n = and_parts (is_narrow p) (list_all is_narrow rest) narrow in
+    let n = and_parts (is_worded p) (list_all is_worded rest) narrow in
     let first = profile_made hot s done p p.channels none (differ_fresh (λ q. q.name) done p rest names) n.0 valid.0.1 (omega arith) in
     let whole : (done ++ p ∷ []) ++ rest ≡ done ++ p ∷ rest = append_assoc done (p ∷ []) rest in
     let long = length-append done (p ∷ []) in

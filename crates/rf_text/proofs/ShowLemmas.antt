@@ -1,20 +1,22 @@
 -- Lines of commands that are added one after another.
-use Rattle.std.proofs.Common.{◌≡◌, ◌<◌, ◌≤◌, ◌+◌, ◌-◌, ◌++◌, ◌∙◌, ℕ, List, [], ◌∷◌, Bool, true, false, length, length-append, map, filter, take, drop, get_or, length-drop, append-nil, append_assoc, arith, refl, sym, ap}
-use Rattle.std.specs.Prelude.{nat_eq, if◌then◌else◌, slice_get, Some, Result, Ok, Err, OnOk}
+use Rattle.std.proofs.Common.{◌≡◌, ◌<◌, ◌≤◌, ◌+◌, ◌-◌, ◌++◌, ◌∙◌, ℕ, List, [], ◌∷◌, Bool, true, false, not, length, length-append, map, filter, take, drop, get_or, length-drop, append-nil, append_assoc, arith, refl, sym, ap}
+use Rattle.std.specs.Prelude.{if◌then◌else◌, slice_get, Some, Result, Ok, Err, OnOk}
 use Rattle.std.specs.List.{flat_map, range_with_len}
-use Rattle.std.proofs.lemmas.Bool.Decides.{nat_tests}
 use Rattle.std.proofs.lemmas.List.{get_or-drop, take_all, take_more}
 use Rattle.std.proofs.lemmas.List.Elements.{filter-append}
 use Rattle.std.proofs.lemmas.Option.{get_or_from_slice_get, slice_get_within}
 use Rattle.std.proofs.lemmas.List.Concat.{flat_map-append}
 use Rattle.rf_profiles.specs.Range.{Span}
 use Rattle.rf_profiles.specs.declared.profile.Profile.{Profile}
-use Rattle.rf_zones.specs.Zones.{ZonesData, heard, is_coupled}
-use Rattle.rf_show.specs.declared.edit.Edit.TheVariants as edit
+use Rattle.rf_zones.specs.Zones.{ZonesData, coupling_of}
+use Rattle.rf_zones.specs.contracts.coupling.Coupling.{the_type}
+use Rattle.rf_zones.specs.declared.coupling.Coupling.TheVariants.{Apart, Coupled, Far}
+use denote.Enum.Bare.{sameb}
+use Rattle.rf_zones.specs.declared.coupling.Coupling.{Coupling}
 use Rattle.rf_text.specs.declared.command.Command.{Command}
 use Rattle.rf_text.specs.declared.command.Command.TheVariants.{Change}
 use Rattle.rf_text.specs.declared.command_lines.CommandLines.{CommandLines}
-use Rattle.rf_text.specs.Shows.{Adds, IsCounted, coupling, couplings_of, first_range_line, range_line, ranges_lines, zone_line, zone_name}
+use Rattle.rf_text.specs.Shows.{Adds, IsCounted, coupling_edit, first_range_line, pair_line, pairs_with, range_line, ranges_lines, same_coupling, stand, zone_line, zone_name}
 use Rattle.rf_text.proofs.RunLemmas.{range_parts}
 
 pub adds_none : (lines : CommandLines) → IsCounted lines → Adds lines lines []
@@ -83,44 +85,57 @@ zones_more old next new names z name low is a b =
 name_of_zone : (zones : ZonesData) (z : ℕ) (name : List ℕ) → slice_get zones.names z ≡ Some name → zone_name zones z ≡ name
 name_of_zone zones z name is = get_or_from_slice_get zones.names z name [] is
 
--- the couplings with the zones before one, and with it
-pub couplings_more : (zones : ZonesData) (a b : ℕ) → a + 1 ≤ b
-    → map (coupling zones a) (filter (is_coupled zones a) (range_with_len (a + 1) (b + 1 - (a + 1))))
-    ≡ map (coupling zones a) (filter (is_coupled zones a) (range_with_len (a + 1) (b - (a + 1))))
-    ++ (if is_coupled zones a b then coupling zones a b ∷ [] else [])
-couplings_more zones a b h =
+same_as : (c d : Coupling) → sameb the_type c d ≡ same_coupling c d
+same_as Apart Apart = refl
+same_as Apart Coupled = refl
+same_as Apart Far = refl
+same_as Coupled Apart = refl
+same_as Coupled Coupled = refl
+same_as Coupled Far = refl
+same_as Far Apart = refl
+same_as Far Coupled = refl
+same_as Far Far = refl
+
+not_is : (a b : Bool) → not a ≡ b → a ≡ not b
+not_is true b h = ap not h
+not_is false b h = ap not h
+
+-- what the code's comparison says of two zones
+pub stands_as : (c d : Coupling) (zones : ZonesData) (a b : ℕ) (differ : Bool) → d ≡ coupling_of zones a b → not (sameb the_type d c) ≡ differ → stand c zones a b ≡ not differ
+stands_as c d zones a b differ is h = rw (← is, ← same_as d c) (not_is (sameb the_type d c) differ h)
+
+-- the lines with the zones before one, and with it
+pub pairs_more : (c : Coupling) (zones : ZonesData) (a b : ℕ) → a + 1 ≤ b
+    → map (pair_line c zones a) (filter (stand c zones a) (range_with_len (a + 1) (b + 1 - (a + 1))))
+    ≡ map (pair_line c zones a) (filter (stand c zones a) (range_with_len (a + 1) (b - (a + 1))))
+    ++ (if stand c zones a b then pair_line c zones a b ∷ [] else [])
+pairs_more c zones a b h =
     let parts = range_parts (a + 1) (b - (a + 1)) 1 (b + 1 - (a + 1)) b (omega arith) (omega arith) in
-    rw (parts, filter-append) (mapped (coupling zones a) (is_coupled zones a) (filter (is_coupled zones a) (range_with_len (a + 1) (b - (a + 1)))) b)
+    rw (parts, filter-append) (mapped (pair_line c zones a) (stand c zones a) (filter (stand c zones a) (range_with_len (a + 1) (b - (a + 1)))) b)
 
-apart : (a b : ℕ) → a < b → nat_eq a b ≡ false
-apart a b h = grind (arith, nat_tests)
-
--- a zone that is coupled
-pub coupled_more : (old next new : CommandLines) (zones : ZonesData) (a b : ℕ) (name other : List ℕ) → a + 1 ≤ b → heard zones a b ≡ true
+-- a zone that stands so
+pub pair_more : (c : Coupling) (old next new : CommandLines) (zones : ZonesData) (a b : ℕ) (name other : List ℕ) → a + 1 ≤ b → stand c zones a b ≡ true
     → slice_get zones.names a ≡ Some name → slice_get zones.names b ≡ Some other
-    → Adds old next (map (coupling zones a) (filter (is_coupled zones a) (range_with_len (a + 1) (b - (a + 1)))))
-    → Adds next new (Change (edit.Couple name other) ∷ [])
-    → Adds old new (map (coupling zones a) (filter (is_coupled zones a) (range_with_len (a + 1) (b + 1 - (a + 1)))))
-coupled_more old next new zones a b name other h hears first second x y =
-    let is : is_coupled zones a b ≡ true = rw (apart a b (omega arith)) at hears in
+    → Adds old next (map (pair_line c zones a) (filter (stand c zones a) (range_with_len (a + 1) (b - (a + 1)))))
+    → Adds next new (Change (coupling_edit c name other) ∷ [])
+    → Adds old new (map (pair_line c zones a) (filter (stand c zones a) (range_with_len (a + 1) (b + 1 - (a + 1)))))
+pair_more c old next new zones a b name other h is first second x y =
     let one = name_of_zone zones a name first in
     let two = name_of_zone zones b other second in
-    rw (couplings_more zones a b h, is, one, two) (adds_both old next new _ (Change (edit.Couple name other) ∷ []) x y)
+    rw (pairs_more c zones a b h, is, one, two) (adds_both old next new _ (Change (coupling_edit c name other) ∷ []) x y)
 
--- a zone that is not
-pub uncoupled_more : (old next : CommandLines) (zones : ZonesData) (a b : ℕ) → a + 1 ≤ b → heard zones a b ≡ false
-    → Adds old next (map (coupling zones a) (filter (is_coupled zones a) (range_with_len (a + 1) (b - (a + 1)))))
-    → Adds old next (map (coupling zones a) (filter (is_coupled zones a) (range_with_len (a + 1) (b + 1 - (a + 1)))))
-uncoupled_more old next zones a b h hears x =
-    let is : is_coupled zones a b ≡ false = rw (apart a b (omega arith)) at hears in
-    rw (couplings_more zones a b h, is, append-nil) x
+-- a zone that does not
+pub no_pair_more : (c : Coupling) (old next : CommandLines) (zones : ZonesData) (a b : ℕ) → a + 1 ≤ b → stand c zones a b ≡ false
+    → Adds old next (map (pair_line c zones a) (filter (stand c zones a) (range_with_len (a + 1) (b - (a + 1)))))
+    → Adds old next (map (pair_line c zones a) (filter (stand c zones a) (range_with_len (a + 1) (b + 1 - (a + 1)))))
+no_pair_more c old next zones a b h is x = rw (pairs_more c zones a b h, is, append-nil) x
 
--- the couplings of one zone more
-pub couplings_of_more : (old next new : CommandLines) (zones : ZonesData) (a : ℕ) → Adds old next (flat_map (couplings_of zones) (range_with_len 0 a))
-    → Adds next new (couplings_of zones a) → Adds old new (flat_map (couplings_of zones) (range_with_len 0 (a + 1)))
-couplings_of_more old next new zones a x y =
+-- the pairs of one zone more
+pub pairs_with_more : (c : Coupling) (old next new : CommandLines) (zones : ZonesData) (a : ℕ) → Adds old next (flat_map (pairs_with c zones) (range_with_len 0 a))
+    → Adds next new (pairs_with c zones a) → Adds old new (flat_map (pairs_with c zones) (range_with_len 0 (a + 1)))
+pairs_with_more c old next new zones a x y =
     let parts = range_parts 0 a 1 (a + 1) a refl (omega arith) in
-    rw (parts, flat_map-append, append-nil) (adds_both old next new _ (couplings_of zones a) x y)
+    rw (parts, flat_map-append, append-nil) (adds_both old next new _ (pairs_with c zones a) x y)
 
 -- ---- profiles
 

@@ -1,5 +1,5 @@
 -- A show, made by the commands of its text.
-use Rattle.std.proofs.Common.{◌≡◌, ◌≤◌, ◌++◌, ℕ, List, [], ◌∷◌, ◌&&◌, Bool, true, length, map, drop, arith, refl, subst, sym, Some}
+use Rattle.std.proofs.Common.{◌≡◌, ◌≤◌, ◌++◌, ℕ, List, [], ◌∷◌, ◌&&◌, true, length, map, drop, arith, refl, subst, sym, Some}
 use Rattle.std.specs.Prelude.{nat_le, slice_get}
 use Rattle.std.specs.List.{IsDistinct, list_all, flat_map}
 use Rattle.std.proofs.lemmas.Bool.{and_parts}
@@ -8,15 +8,16 @@ use Rattle.rf_base.specs.Name.{same_name}
 use Rattle.rf_profiles.specs.Profile.{differ, profile_names}
 use Rattle.rf_zones.specs.ZoneNames.{main_zone}
 use Rattle.rf_zones.specs.Zones.{ZonesData, pairs}
-use Rattle.rf_show.specs.Limits.{most_bans, most_carriers, most_profiles, most_scans}
+use Rattle.rf_zones.specs.declared.coupling.Coupling.{Coupling}
+use Rattle.rf_show.specs.Limits.{most_bans, most_carriers, most_profiles, most_scans, most_zones}
 use Rattle.rf_show.specs.Show.{ShowData, are_bans, are_carriers, are_profiles, are_scans, belongs, carrier_names, first_show, is_ban, is_narrow, is_scan, is_show, is_steady}
 use Rattle.rf_text.specs.declared.command.Command.{Command}
 use Rattle.rf_text.specs.ShowLaw.{HotPointsOf, IsShowOver}
-use Rattle.rf_text.specs.Shows.{ban_line, carrier_lines, couple_lines, profile_lines, scan_line, show_lines, zone_line}
+use Rattle.rf_text.specs.Shows.{ban_line, carrier_lines, couple_lines, far_lines, profile_lines, scan_line, show_lines, zone_line}
 use Rattle.rf_text.proofs.CarriersMade.{carriers_made}
 use Rattle.rf_text.proofs.MadeLemmas.{bans_made, made, made_all, scans_made}
 use Rattle.rf_text.proofs.ProfilesMade.{profiles_made}
-use Rattle.rf_text.proofs.ZonesMade.{couplings_made, zones_made}
+use Rattle.rf_text.proofs.ZonesMade.{coupled_as, couplings_made, zones_made}
 
 le_of : (a b : ℕ) → nat_le a b ≡ true → a ≤ b
 le_of a b h = grind (arith, nat_tests)
@@ -25,7 +26,6 @@ le_of a b h = grind (arith, nat_tests)
 pub record Kept (show : ShowData) : Type 0 where
   pub profiles_few : length show.profiles ≤ most_profiles
   pub profiles_differ : differ (profile_names show.profiles) ≡ true
-  pub narrow : list_all is_narrow show.profiles ≡ true
   pub carriers_few : length show.carriers ≤ most_carriers
   pub carriers_differ : differ (carrier_names show.carriers) ≡ true
   pub there : list_all (belongs show.profiles show.zones) show.carriers ≡ true
@@ -51,7 +51,6 @@ kept_of show h =
     record {
       profiles_few = le_of _ _ q.0;
       profiles_differ = q.1;
-      narrow = p.1;
       carriers_few = le_of _ _ e.0;
       carriers_differ = e.1;
       there = d.1;
@@ -66,28 +65,28 @@ kept_of show h =
 abbrev zones_alone : ZonesData → ShowData
 zones_alone zones = record first_show { zones = zones }
 
-zones_then : (hot : HotPointsOf) (names : List (List ℕ)) (coupled : List Bool) (t : ShowData) (more : List Command) → IsDistinct same_name (main_zone ∷ names) → length (main_zone ∷ names) ≤ 32
-    → length coupled ≡ pairs (length (main_zone ∷ names)) → made hot (zones_alone (record { names = main_zone ∷ names; coupled = coupled })) more ≡ Some t
-    → made hot first_show (map zone_line names ++ (couple_lines (record { names = main_zone ∷ names; coupled = coupled }) ++ more)) ≡ Some t
+zones_then : (hot : HotPointsOf) (names : List (List ℕ)) (couplings : List Coupling) (t : ShowData) (more : List Command) → IsDistinct same_name (main_zone ∷ names)
+    → length (main_zone ∷ names) ≤ most_zones → length couplings ≡ pairs (length (main_zone ∷ names)) → made hot (zones_alone (coupled_as (main_zone ∷ names) couplings)) more ≡ Some t
+    → made hot first_show (map zone_line names ++ (couple_lines (coupled_as (main_zone ∷ names) couplings) ++ (far_lines (coupled_as (main_zone ∷ names) couplings) ++ more))) ≡ Some t
 unfolding pairs
-zones_then hot names coupled t more distinct few paired h =
+zones_then hot names couplings t more distinct few paired h =
     made_all hot _ _ _ (map zone_line names) _ (zones_made hot first_show (main_zone ∷ []) names distinct (omega arith))
-    (made_all hot _ _ _ (couple_lines (record { names = main_zone ∷ names; coupled = coupled })) more (couplings_made hot first_show (main_zone ∷ names) coupled distinct paired) h)
+    (couplings_made hot first_show (main_zone ∷ names) couplings distinct paired t more h)
 
-zones_whole : (hot : HotPointsOf) (names : List (List ℕ)) (coupled : List Bool) (t : ShowData) (more : List Command) → slice_get names 0 ≡ Some main_zone → IsDistinct same_name names → length names ≤ 32
-    → length coupled ≡ pairs (length names) → made hot (zones_alone (record { names = names; coupled = coupled })) more ≡ Some t
-    → made hot first_show (map zone_line (drop 1 names) ++ (couple_lines (record { names = names; coupled = coupled }) ++ more)) ≡ Some t
-zones_whole hot [] coupled t more first distinct few paired h = cc
-zones_whole hot (x ∷ names) coupled t more first distinct few paired h =
+zones_whole : (hot : HotPointsOf) (names : List (List ℕ)) (couplings : List Coupling) (t : ShowData) (more : List Command) → slice_get names 0 ≡ Some main_zone → IsDistinct same_name names
+    → length names ≤ most_zones → length couplings ≡ pairs (length names) → made hot (zones_alone (coupled_as names couplings)) more ≡ Some t
+    → made hot first_show (map zone_line (drop 1 names) ++ (couple_lines (coupled_as names couplings) ++ (far_lines (coupled_as names couplings) ++ more))) ≡ Some t
+zones_whole hot [] couplings t more first distinct few paired h = cc
+zones_whole hot (x ∷ names) couplings t more first distinct few paired h =
     let is : x ≡ main_zone = cc in
-    subst (λ y. made hot first_show (map zone_line names ++ (couple_lines (record { names = y ∷ names; coupled = coupled }) ++ more)) ≡ Some t) (sym is)
-    (zones_then hot names coupled t more (subst (λ y. IsDistinct same_name (y ∷ names)) is distinct) few paired
-    (subst (λ y. made hot (zones_alone (record { names = y ∷ names; coupled = coupled })) more ≡ Some t) is h))
+    subst (λ y. made hot first_show (map zone_line names ++ (couple_lines (coupled_as (y ∷ names) couplings) ++ (far_lines (coupled_as (y ∷ names) couplings) ++ more))) ≡ Some t) (sym is)
+    (zones_then hot names couplings t more (subst (λ y. IsDistinct same_name (y ∷ names)) is distinct) few paired
+    (subst (λ y. made hot (zones_alone (coupled_as (y ∷ names) couplings)) more ≡ Some t) is h))
 
 rest_made : (hot : HotPointsOf) (show : ShowData) → IsShowOver hot show → Kept show
     → made hot (zones_alone show.zones) (flat_map profile_lines show.profiles ++ (map ban_line show.bans ++ (map scan_line show.scans ++ flat_map carrier_lines show.carriers))) ≡ Some show
 rest_made hot show w k =
-    let p = profiles_made hot (zones_alone show.zones) [] show.profiles refl k.profiles_differ k.narrow w.profiles (omega (arith, k.profiles_few)) in
+    let p = profiles_made hot (zones_alone show.zones) [] show.profiles refl k.profiles_differ w.textual w.profiles (omega (arith, k.profiles_few)) in
     let b = bans_made hot (record (zones_alone show.zones) { profiles = show.profiles }) [] show.bans k.bans w.bans (omega (arith, k.bans_few)) in
     let s = scans_made hot (record (zones_alone show.zones) { profiles = show.profiles; bans = show.bans }) [] show.scans k.scans w.scans (omega (arith, k.scans_few)) in
     let c = carriers_made hot (record (zones_alone show.zones) { profiles = show.profiles; bans = show.bans; scans = show.scans }) [] show.carriers k.carriers_differ k.there k.steady w.carriers (omega (arith, k.carriers_few)) in
@@ -95,4 +94,4 @@ rest_made hot show w k =
 
 pub commands_make_show : (hot : HotPointsOf) (show : ShowData) → IsShowOver hot show → made hot first_show (show_lines show) ≡ Some show
 commands_make_show hot show w =
-    zones_whole hot show.zones.names show.zones.coupled show _ w.zones.first w.zones.distinct w.zones.few w.zones.paired (rest_made hot show w (kept_of show w.kept))
+    zones_whole hot show.zones.names show.zones.couplings show _ w.zones.first w.zones.distinct w.zones.few w.zones.paired (rest_made hot show w (kept_of show w.kept))

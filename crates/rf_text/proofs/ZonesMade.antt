@@ -1,5 +1,5 @@
 -- The zones of a show, made by their lines.
-use Rattle.std.proofs.Common.{◌≡◌, ◌<◌, ◌≤◌, ◌+◌, ◌-◌, ◌++◌, ◌∙◌, ℕ, zero, suc, List, [], ◌∷◌, Bool, true, false, cond, length, length-append, map, filter, replicate, get_or, set, length-set, add-one, append-nil, append_assoc, arith, refl, sym, Some, None, Ok, inl, inr}
+use Rattle.std.proofs.Common.{◌≡◌, ◌<◌, ◌≤◌, ◌+◌, ◌-◌, ◌++◌, ◌∙◌, ℕ, zero, suc, List, [], ◌∷◌, Bool, true, false, cond, length, length-append, map, filter, replicate, get_or, set, length-set, add-one, append-nil, append_assoc, arith, refl, sym, Some, None, Ok, ◌⊎◌, inl, inr}
 use Rattle.std.specs.Prelude.{nat_lt, nat_eq, is_some, position}
 use Rattle.std.specs.List.{AllByRecursion, IsDistinct, list_any, position_or_len, flat_map, range_with_len}
 use Rattle.std.specs.Cmp.Lexicographic.{nat_list_eq_equiv}
@@ -10,14 +10,16 @@ use Rattle.std.proofs.lemmas.List.{ext_get_or, get_or-set_other, length_push, le
 use Rattle.std.proofs.lemmas.List.Sums.{position_or_len_is}
 use Rattle.std.proofs.lemmas.Map.Keys.{apart_from_distinct}
 use Rattle.rf_base.specs.Name.{same_name}
-use Rattle.rf_zones.specs.Zones.{ZonesData, is_coupled, pairs, pair_place, with_zone}
+use Rattle.rf_zones.specs.Zones.{ZonesData, pairs, pair_place, with_zone}
+use Rattle.rf_zones.specs.declared.coupling.Coupling.{Coupling}
+use Rattle.rf_zones.specs.declared.coupling.Coupling.TheVariants.{Apart, Coupled, Far}
 use Rattle.rf_show.specs.declared.edit.Edit.TheVariants as edit
 use Rattle.rf_show.specs.After.{after}
 use Rattle.rf_show.specs.Limits.{most_zones}
 use Rattle.rf_show.specs.Show.{ShowData}
 use Rattle.rf_text.specs.declared.command.Command.{Command}
 use Rattle.rf_text.specs.ShowLaw.{HotPointsOf}
-use Rattle.rf_text.specs.Shows.{couple_lines, coupling, couplings_of, zone_line, zone_name}
+use Rattle.rf_text.specs.Shows.{couple_lines, coupling_edit, far_lines, pair_line, pairs_with, same_coupling, stand, zone_line, zone_name}
 use Rattle.rf_text.proofs.MadeLemmas.{fits_not, made, made_all}
 
 -- ---- names
@@ -50,9 +52,9 @@ zone_step : (s : ShowData) (name : List ℕ) → list_any (same_name name) s.zon
     → after s (edit.AddZone name) ≡ Ok (record s { zones = with_zone s.zones name })
 zone_step s name new room = rw (position_any (same_name name) s.zones.names ∙ new, fits_not (length s.zones.names) most_zones room) refl
 
--- these zones, coupled with none
+-- these zones, apart from each other
 abbrev pub uncoupled : List (List ℕ) → ZonesData
-uncoupled names = record { names = names; coupled = replicate (pairs (length names)) false }
+uncoupled names = record { names = names; couplings = replicate (pairs (length names)) Apart }
 
 uncoupled_more : (done : List (List ℕ)) (name : List ℕ) → with_zone (uncoupled done) name ≡ uncoupled (done ++ name ∷ [])
 unfolding pairs
@@ -80,39 +82,65 @@ position_of names i d distinct inside =
     rw (at, lt-ltb i (length names) inside) refl
 
 -- these zones, coupled so
-abbrev pub coupled_as : List (List ℕ) → List Bool → ZonesData
-coupled_as names coupled = record { names = names; coupled = coupled }
+abbrev pub coupled_as : List (List ℕ) → List Coupling → ZonesData
+coupled_as names couplings = record { names = names; couplings = couplings }
 
-couple_step : (s : ShowData) (names : List (List ℕ)) (coupled target : List Bool) (a b : ℕ) → IsDistinct same_name names → a < b → b < length names
-    → after (record s { zones = coupled_as names coupled }) (edit.Couple (zone_name (coupled_as names target) a) (zone_name (coupled_as names target) b))
-    ≡ Ok (record s { zones = coupled_as names (set coupled (pair_place a b) true) })
-couple_step s names coupled target a b distinct low high =
-    let first = position_of names a [] distinct (omega arith) in
-    let second = position_of names b [] distinct high in
-    let apart : nat_eq a b ≡ false = grind (arith, nat_tests) in
-    rw (first, second, apart) refl
+apart : (a b : ℕ) → a < b → nat_eq a b ≡ false
+apart a b h = grind (arith, nat_tests)
 
--- No pair is coupled that is not to be.
-record Below (coupled target : List Bool) : Type 0 where
-  long : length coupled ≡ length target
-  none : (k : ℕ) → get_or coupled k false ≡ true → get_or target k false ≡ true
+edit_step : (c : Coupling) (s : ShowData) (a b : List ℕ) (x y : ℕ) → position (same_name a) s.zones.names ≡ Some x → position (same_name b) s.zones.names ≡ Some y → x < y
+    → after s (coupling_edit c a b) ≡ Ok (record s { zones = record s.zones { couplings = set s.zones.couplings (pair_place x y) c } })
+edit_step Apart s a b x y first second low = rw (first, second, apart x y low) refl
+edit_step Coupled s a b x y first second low = rw (first, second, apart x y low) refl
+edit_step Far s a b x y first second low = rw (first, second, apart x y low) refl
 
--- The couplings that edits make on the way to all.
-record Coupled (hot : HotPointsOf) (s : ShowData) (names : List (List ℕ)) (old target : List Bool) (edits : List Command) (Pair : ℕ → ℕ → Type 0) : Type 0 where
-  new : List Bool
-  is : made hot (record s { zones = coupled_as names old }) edits ≡ Some (record s { zones = coupled_as names new })
-  below : Below new target
-  kept : (k : ℕ) → get_or old k false ≡ true → get_or new k false ≡ true
-  there : (a b : ℕ) → Pair a b → get_or target (pair_place a b) false ≡ true → get_or new (pair_place a b) false ≡ true
+pair_step : (c : Coupling) (s : ShowData) (names : List (List ℕ)) (old target : List Coupling) (a b : ℕ) → IsDistinct same_name names → a < b → b < length names
+    → after (record s { zones = coupled_as names old }) (coupling_edit c (zone_name (coupled_as names target) a) (zone_name (coupled_as names target) b))
+    ≡ Ok (record s { zones = coupled_as names (set old (pair_place a b) c) })
+pair_step c s names old target a b distinct low high =
+    edit_step c (record s { zones = coupled_as names old }) _ _ a b (position_of names a [] distinct (omega arith)) (position_of names b [] distinct high) low
 
-set_below : (coupled target : List Bool) (k : ℕ) → Below coupled target → k < length coupled → get_or target k false ≡ true → Below (set coupled k true) target
-set_below coupled target k h inside on = record {
-  long = length-set coupled k true ∙ h.long;
-  none = λ j is. elim (cases_eq j k) [ inl same ↦ rw same on | inr other ↦ h.none j (sym (get_or-set_other coupled k j true false other) ∙ is) ];
-}
+same_is : (c d : Coupling) → same_coupling c d ≡ true → c ≡ d
+same_is Apart Apart h = refl
+same_is Apart Coupled h = cc
+same_is Apart Far h = cc
+same_is Coupled Apart h = cc
+same_is Coupled Coupled h = refl
+same_is Coupled Far h = cc
+same_is Far Apart h = cc
+same_is Far Coupled h = cc
+same_is Far Far h = refl
 
-set_kept : (coupled : List Bool) (k : ℕ) → k < length coupled → (j : ℕ) → get_or coupled j false ≡ true → get_or (set coupled k true) j false ≡ true
-set_kept coupled k inside j is = elim (cases_eq j k) [ inl same ↦ get_or-set_at coupled k j true false same inside | inr other ↦ get_or-set_other coupled k j true false other ∙ is ]
+same_own : (c : Coupling) → same_coupling c c ≡ true
+same_own Apart = refl
+same_own Coupled = refl
+same_own Far = refl
+
+-- each pair stands as it is to stand, or as it stood
+abbrev Stays : List Coupling → List Coupling → List Coupling → Type 0
+Stays target old new = (k : ℕ) → (get_or new k Apart ≡ get_or target k Apart) ⊎ (get_or new k Apart ≡ get_or old k Apart)
+
+stays_then : (target old next new : List Coupling) → Stays target old next → Stays target next new → Stays target old new
+stays_then target old next new first second k =
+    elim (second k) [ inl is ↦ inl is | inr same ↦ elim (first k) [ inl is ↦ inl (same ∙ is) | inr was ↦ inr (same ∙ was) ] ]
+
+-- what stands as it is to stand, stays
+kept : (target old new : List Coupling) (k : ℕ) (c : Coupling) → Stays target old new → get_or target k Apart ≡ c → get_or old k Apart ≡ c → get_or new k Apart ≡ c
+kept target old new k c stays is was = elim (stays k) [ inl same ↦ same ∙ is | inr same ↦ same ∙ was ]
+
+stays_set : (target old : List Coupling) (k : ℕ) (c : Coupling) → k < length old → get_or target k Apart ≡ c → Stays target old (set old k c)
+stays_set target old k c inside is j = elim (cases_eq j k) [
+  | inl same ↦ inl (rw same (get_or-set_at old k k c Apart refl inside ∙ sym is))
+  | inr other ↦ inr (get_or-set_other old k j c Apart other)
+]
+
+-- The couplings that the lines of one coupling make on the way to all: those of some pairs.
+record Settles (hot : HotPointsOf) (s : ShowData) (names : List (List ℕ)) (c : Coupling) (target old : List Coupling) (lines : List Command) (Pair : ℕ → ℕ → Type 0) : Type 0 where
+  new : List Coupling
+  is : made hot (record s { zones = coupled_as names old }) lines ≡ Some (record s { zones = coupled_as names new })
+  long : length new ≡ length old
+  stays : Stays target old new
+  there : (a b : ℕ) → Pair a b → get_or target (pair_place a b) Apart ≡ c → get_or new (pair_place a b) Apart ≡ c
 
 pairs_rise : (m n : ℕ) → m ≤ n → pairs m ≤ pairs n
 unfolding pairs
@@ -138,77 +166,100 @@ pair_of (suc n) k h = elim (cases_lt k (pairs n)) [
   | inr high ↦ let less : k - pairs n < n = omega (arith, h) in (k - pairs n, n, less, omega arith, place_of (k - pairs n) n less ∙ omega (arith, high))
 ]
 
-module _ (hot : HotPointsOf) (s : ShowData) (names : List (List ℕ)) (target : List Bool) (distinct : IsDistinct same_name names) (paired : length target ≡ pairs (length names)) where
+module _ (hot : HotPointsOf) (s : ShowData) (names : List (List ℕ)) (target : List Coupling) (distinct : IsDistinct same_name names) (paired : length target ≡ pairs (length names)) where
   abbrev zones : ZonesData
   zones = coupled_as names target
 
-  row : (a m b0 : ℕ) (old : List Bool) → Below old target → a < b0 → b0 + m ≤ length names
-      → Coupled hot s names old target (map (coupling zones a) (filter (is_coupled zones a) (range_with_len b0 m))) (λ x y. (x ≡ a) × (b0 ≤ y) × (y < b0 + m))
-  row a zero b0 old h low high = record { new = old; is = refl; below = h; kept = λ k is. is; there = λ x y p on. absurd (omega (arith, p.1, p.2)) }
-  row a (suc m) b0 old h low high = elim (cases_Bool (get_or target (pair_place a b0) false)) [
-    | inl on ↦
-        let inside : pair_place a b0 < length old = omega (arith, place_within a b0 (length names) low (omega arith), h.long, paired) in
-        let step = couple_step s names old target a b0 distinct low (omega arith) in
-        let rest = row a m (b0 + 1) (set old (pair_place a b0) true) (set_below old target (pair_place a b0) h inside on) (omega arith) (omega arith) in
-        record {
-          new = rest.new;
-          is = rw on (rw step rest.is);
-          below = rest.below;
-          kept = λ k is. rest.kept k (set_kept old (pair_place a b0) inside k is);
-          there = λ x y p is. elim (cases_eq y b0) [
-            | inl same ↦ rw (p.0, same) (rest.kept (pair_place a b0) (get_or-set_at old (pair_place a b0) (pair_place a b0) true false refl inside))
-            | inr other ↦ rest.there x y (p.0, omega (arith, p.1, other), omega (arith, p.2)) is
-          ];
-        }
-    | inr off ↦
-        let rest = row a m (b0 + 1) old h (omega arith) (omega arith) in
-        record {
-          new = rest.new;
-          is = rw off rest.is;
-          below = rest.below;
-          kept = rest.kept;
-          there = λ x y p is. elim (cases_eq y b0) [
-            | inl same ↦ let on : get_or target (pair_place a b0) false ≡ true = rw (p.0, same) at is in absurd (false≢true (sym off ∙ on))
-            | inr other ↦ rest.there x y (p.0, omega (arith, p.1, other), omega (arith, p.2)) is
-          ];
-        }
-  ]
+  row : (c : Coupling) (a m b0 : ℕ) (old : List Coupling) → length old ≡ length target → a < b0 → b0 + m ≤ length names
+      → Settles hot s names c target old (map (pair_line c zones a) (filter (stand c zones a) (range_with_len b0 m))) (λ x y. (x ≡ a) × (b0 ≤ y) × (y < b0 + m))
+  row c a zero b0 old h low high = record { new = old; is = refl; long = refl; stays = λ k. inr refl; there = λ x y p on. absurd (omega (arith, p.1, p.2)) }
+  row c a (suc m) b0 old h low high =
+      let differ = apart a b0 low in
+      elim (cases_Bool (same_coupling (get_or target (pair_place a b0) Apart) c)) [
+        | inl on ↦
+            let at = same_is (get_or target (pair_place a b0) Apart) c on in
+            let inside : pair_place a b0 < length old = omega (arith, place_within a b0 (length names) low (omega arith), h, paired) in
+            let step = pair_step c s names old target a b0 distinct low (omega arith) in
+            let long = length-set old (pair_place a b0) c in
+            let rest = row c a m (b0 + 1) (set old (pair_place a b0) c) (long ∙ h) (omega arith) (omega arith) in
+            record {
+              new = rest.new;
+              is = rw (differ, on) (rw step rest.is);
+              long = rest.long ∙ long;
+              stays = stays_then target old _ rest.new (stays_set target old (pair_place a b0) c inside at) rest.stays;
+              there = λ x y p is. elim (cases_eq y b0) [
+                | inl same ↦ rw (p.0, same) (kept target _ rest.new (pair_place a b0) c rest.stays at (get_or-set_at old (pair_place a b0) (pair_place a b0) c Apart refl inside))
+                | inr other ↦ rest.there x y (p.0, omega (arith, p.1, other), omega (arith, p.2)) is
+              ];
+            }
+        | inr off ↦
+            let rest = row c a m (b0 + 1) old h (omega arith) (omega arith) in
+            record {
+              new = rest.new;
+              is = rw (differ, off) rest.is;
+              long = rest.long;
+              stays = rest.stays;
+              there = λ x y p is. elim (cases_eq y b0) [
+                | inl same ↦
+                    let here : get_or target (pair_place a b0) Apart ≡ c = rw (p.0, same) at is in
+                    let on : same_coupling (get_or target (pair_place a b0) Apart) c ≡ true = rw here (same_own c) in
+                    absurd (false≢true (sym off ∙ on))
+                | inr other ↦ rest.there x y (p.0, omega (arith, p.1, other), omega (arith, p.2)) is
+              ];
+            }
+      ]
 
-  rows : (m a0 : ℕ) (old : List Bool) → Below old target → a0 + m ≤ length names
-      → Coupled hot s names old target (flat_map (couplings_of zones) (range_with_len a0 m)) (λ x y. (a0 ≤ x) × (x < a0 + m) × (x < y) × (y < length names))
-  rows zero a0 old h high = record { new = old; is = refl; below = h; kept = λ k is. is; there = λ x y p on. absurd (omega (arith, p.0, p.1)) }
-  rows (suc m) a0 old h high =
-      let first = row a0 (length names - (a0 + 1)) (a0 + 1) old h (omega arith) (omega arith) in
-      let rest = rows m (a0 + 1) first.new first.below (omega arith) in
+  rows : (c : Coupling) (m a0 : ℕ) (old : List Coupling) → length old ≡ length target → a0 + m ≤ length names
+      → Settles hot s names c target old (flat_map (pairs_with c zones) (range_with_len a0 m)) (λ x y. (a0 ≤ x) × (x < a0 + m) × (x < y) × (y < length names))
+  rows c zero a0 old h high = record { new = old; is = refl; long = refl; stays = λ k. inr refl; there = λ x y p on. absurd (omega (arith, p.0, p.1)) }
+  rows c (suc m) a0 old h high =
+      let first = row c a0 (length names - (a0 + 1)) (a0 + 1) old h (omega arith) (omega arith) in
+      let rest = rows c m (a0 + 1) first.new (first.long ∙ h) (omega arith) in
       record {
         new = rest.new;
-        is = made_all hot _ _ _ (couplings_of zones a0) _ first.is rest.is;
-        below = rest.below;
-        kept = λ k is. rest.kept k (first.kept k is);
+        is = made_all hot _ _ _ (pairs_with c zones a0) _ first.is rest.is;
+        long = rest.long ∙ first.long;
+        stays = stays_then target old first.new rest.new first.stays rest.stays;
         there = λ x y p is. elim (cases_eq x a0) [
-          | inl same ↦ rest.kept (pair_place x y) (first.there x y (same, omega (arith, p.2, same), omega (arith, p.3)) is)
+          | inl same ↦ kept target first.new rest.new (pair_place x y) c rest.stays is (first.there x y (same, omega (arith, p.2, same), omega (arith, p.3)) is)
           | inr other ↦ rest.there x y (omega (arith, p.0, other), omega (arith, p.1), p.2, p.3) is
         ];
       }
 
-  off : (n k : ℕ) → get_or (replicate n false) k false ≡ false
+  off : (n k : ℕ) → get_or (replicate n Apart) k Apart ≡ Apart
   off zero k = refl
   off (suc n) zero = refl
   off (suc n) (suc k) = off n k
 
-  same_at : (new : List Bool) (k : ℕ) → (get_or new k false ≡ true → get_or target k false ≡ true) → (get_or target k false ≡ true → get_or new k false ≡ true)
-      → get_or new k false ≡ get_or target k false
-  same_at new k f g = elim (cases_Bool (get_or target k false)) [
-    | inl on ↦ g on ∙ sym on
-    | inr not_on ↦ elim (cases_Bool (get_or new k false)) [ inl is ↦ absurd (false≢true (sym not_on ∙ f is)) | inr is ↦ is ∙ sym not_on ]
+  -- what is to be neither coupled nor coupled far is apart
+  neither : (is near far : Coupling) → near ≡ Apart → far ≡ Apart → (is ≡ Coupled → near ≡ Coupled) → (is ≡ Far → far ≡ Far) → far ≡ is
+  neither Apart near far n f g h = f
+  neither Coupled near far n f g h = let on = g refl in cc
+  neither Far near far n f g h = h refl
+
+  settled : (k : ℕ) (old near far : List Coupling) → get_or old k Apart ≡ Apart → Stays target old near → Stays target near far
+      → (get_or target k Apart ≡ Coupled → get_or near k Apart ≡ Coupled) → (get_or target k Apart ≡ Far → get_or far k Apart ≡ Far)
+      → get_or far k Apart ≡ get_or target k Apart
+  settled k old near far none first second g h = elim (second k) [
+    | inl is ↦ is
+    | inr same ↦ elim (first k) [
+      | inl is ↦ same ∙ is
+      | inr was ↦ neither (get_or target k Apart) (get_or near k Apart) (get_or far k Apart) (was ∙ none) (same ∙ (was ∙ none)) g h
+    ]
   ]
 
-  pub couplings_made : made hot (record s { zones = uncoupled names }) (couple_lines zones) ≡ Some (record s { zones = zones })
-  couplings_made =
-      let start : Below (replicate (pairs (length names)) false) target =
-      record { long = length-replicate (pairs (length names)) false ∙ sym paired; none = λ k is. absurd (false≢true (sym (off (pairs (length names)) k) ∙ is)) } in
-      let c = rows (length names) 0 (replicate (pairs (length names)) false) start (omega arith) in
-      let whole : c.new ≡ target = ext_get_or false c.new target c.below.long (λ k inside.
-      let (a, b, p, q, r) = pair_of (length names) k (omega (arith, c.below.long, paired)) in
-      same_at c.new k (c.below.none k) (λ is. rw r at (c.there a b (omega arith, omega (arith, p, q), p, q) (rw r is)))) in
-      rw whole at c.is
+  -- the lines of the coupled zones, and of those that are coupled far, make all couplings
+  pub couplings_made : (t : ShowData) (more : List Command) → made hot (record s { zones = zones }) more ≡ Some t
+      → made hot (record s { zones = uncoupled names }) (couple_lines zones ++ (far_lines zones ++ more)) ≡ Some t
+  couplings_made t more then =
+      let start = replicate (pairs (length names)) Apart in
+      let long : length start ≡ length target = length-replicate (pairs (length names)) Apart ∙ sym paired in
+      let near = rows Coupled (length names) 0 start long (omega arith) in
+      let far = rows Far (length names) 0 near.new (near.long ∙ long) (omega arith) in
+      let same : length far.new ≡ length target = far.long ∙ (near.long ∙ long) in
+      let whole : far.new ≡ target = ext_get_or Apart far.new target same (λ k inside.
+      let (a, b, p, q, r) = pair_of (length names) k (omega (arith, same, paired)) in
+      settled k start near.new far.new (off (pairs (length names)) k) near.stays far.stays
+      (λ is. rw r at (near.there a b (omega arith, omega (arith, p, q), p, q) (rw r is)))
+      (λ is. rw r at (far.there a b (omega arith, omega (arith, p, q), p, q) (rw r is)))) in
+      made_all hot _ _ _ (couple_lines zones) _ near.is (made_all hot _ _ _ (far_lines zones) more (rw whole at far.is) then)

@@ -6,7 +6,7 @@ use Rattle.rf_show.specs.declared.edit.Edit.{Edit}
 use Rattle.rf_show.specs.declared.edit.Edit.TheVariants as edit
 use Rattle.rf_text.specs.declared.verb.Verb.{Verb}
 use Rattle.rf_text.specs.declared.verb.Verb.TheVariants as verb
-use Rattle.rf_text.specs.Operands.{at_most_one, first, many, one, two, three}
+use Rattle.rf_text.specs.Operands.{at_most_one, first, one, profile_numbers, two, three}
 
 -- an edit of what is excluded, by a first word and the operands after it
 unfoldable pub exclusion_by : Verb → List (List ℕ) → Option Edit
@@ -17,12 +17,13 @@ exclusion_by _ words = None
 
 -- an edit of what the carriers stand on, by a first word and the operands after it
 unfoldable pub setup_by : Verb → List (List ℕ) → Option Edit
-setup_by verb.Profile words = option_map (λ w. edit.AddProfile w.0 w.1) (first name_of (many 9 number_of) words)
+setup_by verb.Profile words = option_map (λ w. edit.AddProfile w.0 w.1) (first name_of profile_numbers words)
 setup_by verb.Range words = option_map (λ w. edit.AddRange w.0 w.1.0 w.1.1 w.1.2) (first name_of (three number_of number_of number_of) words)
 setup_by verb.DropProfile words = option_map (λ name. edit.DropProfile name) (one name_of words)
 setup_by verb.Zone words = option_map (λ name. edit.AddZone name) (one name_of words)
 setup_by verb.Couple words = option_map (λ w. edit.Couple w.0 w.1) (two name_of name_of words)
 setup_by verb.Uncouple words = option_map (λ w. edit.Uncouple w.0 w.1) (two name_of name_of words)
+setup_by verb.Far words = option_map (λ w. edit.Far w.0 w.1) (two name_of name_of words)
 setup_by verb words = exclusion_by verb words
 
 -- an edit by a first word and the operands after it

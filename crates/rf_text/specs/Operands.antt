@@ -1,6 +1,7 @@
 -- How the operands of a line are read.
-use Rattle.std.specs.Prelude.{ℕ, zero, suc, List, [], ◌∷◌, Option, Some, None, option_map, option_and_then, if◌then◌else◌}
-use Rattle.rf_text.specs.Words.{is_empty, only}
+use Rattle.std.specs.Prelude.{ℕ, zero, suc, List, [], ◌∷◌, ◌++◌, Option, Some, None, option_map, option_and_then, unwrap_or}
+use Rattle.rf_base.specs.Decimal.{number_of}
+use Rattle.rf_text.specs.Words.{only}
 
 infixl 10 ◌>>=◌
 abbrev pub ◌>>=◌ : {A B : Type 0} → Option A → (A → Option B) → Option B
@@ -28,7 +29,15 @@ abbrev pub at_most_one : {A : Type 0} → (List ℕ → Option A) → List (List
 at_most_one reads [] = Some None
 at_most_one reads (word ∷ words) = option_map (λ operand. Some operand) (one reads (word ∷ words))
 
--- so many operands
-unfoldable pub many : {A : Type 0} → ℕ → (List ℕ → Option A) → List (List ℕ) → Option (List A)
-many zero reads words = if is_empty words then Some [] else None
-many (suc count) reads words = option_map (λ w. w.0 ∷ w.1) (first reads (many count reads) words)
+-- so many operands, and what the others are
+unfoldable pub several : {A B : Type 0} → ℕ → (List ℕ → Option A) → (List (List ℕ) → Option B) → List (List ℕ) → Option (List A × B)
+several zero reads others words = option_map (λ more. ([], more)) (others words)
+several (suc count) reads others words = option_map (λ w. (w.0 ∷ w.1.0, w.1.1)) (first reads (several count reads others) words)
+
+-- how many numbers the line of a profile has at least: all but the last
+abbrev pub fewest_numbers : ℕ
+fewest_numbers = 9
+
+-- the numbers of a profile, of which the last is 0 where it is left out
+unfoldable pub profile_numbers : List (List ℕ) → Option (List ℕ)
+profile_numbers words = option_map (λ w. w.0 ++ unwrap_or w.1 0 ∷ []) (several fewest_numbers number_of (at_most_one number_of) words)

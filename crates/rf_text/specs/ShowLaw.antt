@@ -1,5 +1,5 @@
 -- What the lines of a show's text make.
-use Rattle.std.specs.Prelude.{◌≡◌, ℕ, true, List, [], ◌∷◌, map, Option, Some, None, option_and_then, IfSome}
+use Rattle.std.specs.Prelude.{◌≡◌, ℕ, true, List, [], ◌∷◌, map, Option, Some, None, Ok, option_and_then, IfSome, IsTrue}
 use Rattle.std.specs.List.{AllByRecursion}
 use Rattle.std.specs.Result.{result_ok}
 use Rattle.rf_base.specs.FileName.{IsFileName}
@@ -16,7 +16,8 @@ use Rattle.rf_zones.specs.Zones.{IsZones}
 use Rattle.rf_show.specs.declared.carrier.Carrier.{Carrier}
 use Rattle.rf_show.specs.declared.edit.Edit.{Edit}
 use Rattle.rf_show.specs.declared.edit.Edit.TheVariants as edit
-use Rattle.rf_show.specs.After.{after}
+use Rattle.rf_show.specs.After.{after, is_edit}
+use Rattle.rf_show.specs.Raised.{is_textual}
 use Rattle.rf_show.specs.Show.{ShowData, first_show, is_show}
 use Rattle.rf_text.specs.declared.command.Command.{Command}
 use Rattle.rf_text.specs.declared.command.Command.TheVariants.{Change, Scan}
@@ -66,9 +67,11 @@ pub record IsScan (hot : HotPointsOf) (scan : ScanSet) : Type 0 where
   pub zone : IsName scan.zone
   pub points : hot scan.file scan.sep scan.threshold ≡ scan.hot
 
--- What a show over files with these hot points keeps, with what its parts keep.
+-- What a show over files with these hot points keeps, with what its parts keep. Its widths are those of a text: a show that is
+-- raised may have no text.
 pub record IsShowOver (hot : HotPointsOf) (show : ShowData) : Type 0 where
   pub kept : is_show show ≡ true
+  pub textual : is_textual show ≡ true
   pub zones : IsZones show.zones
   pub zone_names : AllByRecursion IsName show.zones.names
   pub profiles : AllByRecursion IsProfile show.profiles
@@ -79,3 +82,8 @@ pub record IsShowOver (hot : HotPointsOf) (show : ShowData) : Type 0 where
 -- The lines of a show's text, applied to a first show over the same files, are all accepted and give the show.
 abbrev pub LinesMakeShow : Type 0
 LinesMakeShow = (hot : HotPointsOf) (show : ShowData) → IsShowOver hot show → after_lines hot first_show (map command_text_of (show_lines show)) ≡ Some show
+
+-- A first show has only widths that a text may give, and an accepted edit of a line or a file leaves such a show so.
+pub record EditsStayTextual : Type 0 where
+  pub first : is_textual first_show ≡ true
+  pub next : (show next : ShowData) (change : Edit) → is_textual show ≡ true → IsTrue (is_edit change) → after show change ≡ Ok next → is_textual next ≡ true

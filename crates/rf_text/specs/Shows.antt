@@ -1,14 +1,17 @@
 -- The reply to `show`.
-use Rattle.std.specs.Prelude.{◌≡◌, ◌≤◌, ℕ, Bool, List, [], ◌∷◌, ◌++◌, ◌+◌, ◌-◌, length, map, filter, drop, string_bytes, slice_index_or, Option, Some, None, codes, decimal, if◌then◌else◌}
+use Rattle.std.specs.Prelude.{◌≡◌, ◌≤◌, ℕ, Bool, true, false, List, [], ◌∷◌, ◌++◌, ◌+◌, ◌-◌, length, map, filter, drop, string_bytes, slice_index_or, Option, Some, None, codes, decimal, if◌then◌else◌}
 use Rattle.std.specs.List.{flat_map, range_with_len}
 use Rattle.rf_profiles.specs.Profile.{widths}
 use Rattle.rf_profiles.specs.Range.{Span}
 use Rattle.rf_profiles.specs.declared.profile.Profile.{Profile}
 use Rattle.rf_exclusions.specs.declared.ban.Ban.{Ban}
 use Rattle.rf_exclusions.specs.declared.scan_set.ScanSet.{ScanSet}
-use Rattle.rf_zones.specs.Zones.{ZonesData, is_coupled}
+use Rattle.rf_zones.specs.Zones.{ZonesData, coupling_of}
+use Rattle.rf_zones.specs.declared.coupling.Coupling.{Coupling}
+use Rattle.rf_zones.specs.declared.coupling.Coupling.TheVariants.{Apart, Coupled, Far}
 use Rattle.rf_show.specs.Show.{ShowData}
 use Rattle.rf_show.specs.declared.carrier.Carrier.{Carrier}
+use Rattle.rf_show.specs.declared.edit.Edit.{Edit}
 use Rattle.rf_show.specs.declared.edit.Edit.TheVariants as edit
 use Rattle.rf_text.specs.declared.command.Command.{Command}
 use Rattle.rf_text.specs.declared.command.Command.TheVariants.{Change, Scan}
@@ -28,17 +31,41 @@ zone_lines zones = map zone_line (drop 1 zones.names)
 abbrev pub zone_name : ZonesData → ℕ → List ℕ
 zone_name zones z = slice_index_or zones.names z []
 
-abbrev pub coupling : ZonesData → ℕ → ℕ → Command
-coupling zones a b = Change (edit.Couple (zone_name zones a) (zone_name zones b))
+-- the edit that makes two zones stand so to each other
+abbrev pub coupling_edit : Coupling → List ℕ → List ℕ → Edit
+coupling_edit Apart a b = edit.Uncouple a b
+coupling_edit Coupled a b = edit.Couple a b
+coupling_edit Far a b = edit.Far a b
 
--- a line for each later zone with which a zone is coupled
-abbrev pub couplings_of : ZonesData → ℕ → List Command
-couplings_of zones a =
-    map (coupling zones a) (filter (is_coupled zones a) (range_with_len (a + 1) (length zones.names - (a + 1))))
+abbrev pub same_coupling : Coupling → Coupling → Bool
+same_coupling Apart Apart = true
+same_coupling Coupled Coupled = true
+same_coupling Far Far = true
+same_coupling _ _ = false
+
+-- whether two zones stand so to each other
+abbrev pub stand : Coupling → ZonesData → ℕ → ℕ → Bool
+stand coupling zones a b = same_coupling (coupling_of zones a b) coupling
+
+abbrev pub pair_line : Coupling → ZonesData → ℕ → ℕ → Command
+pair_line coupling zones a b = Change (coupling_edit coupling (zone_name zones a) (zone_name zones b))
+
+-- a line for each later zone that stands so to a zone
+abbrev pub pairs_with : Coupling → ZonesData → ℕ → List Command
+pairs_with coupling zones a =
+    map (pair_line coupling zones a) (filter (stand coupling zones a) (range_with_len (a + 1) (length zones.names - (a + 1))))
+
+-- a line for each two different zones that stand so to each other, ordered by the first and then the second
+abbrev pub pairs_that : Coupling → ZonesData → List Command
+pairs_that coupling zones = flat_map (pairs_with coupling zones) (range_with_len 0 (length zones.names))
 
 -- a line for each two different zones that are coupled
 abbrev pub couple_lines : ZonesData → List Command
-couple_lines zones = flat_map (couplings_of zones) (range_with_len 0 (length zones.names))
+couple_lines zones = pairs_that Coupled zones
+
+-- a line for each two zones that are coupled far
+abbrev pub far_lines : ZonesData → List Command
+far_lines zones = pairs_that Far zones
 
 -- ---- profiles
 
@@ -89,8 +116,8 @@ carrier_lines c =
 -- the lines that make a show
 abbrev pub show_lines : ShowData → List Command
 show_lines show =
-    zone_lines show.zones ++ (couple_lines show.zones ++ (flat_map profile_lines show.profiles
-    ++ (map ban_line show.bans ++ (map scan_line show.scans ++ flat_map carrier_lines show.carriers))))
+    zone_lines show.zones ++ (couple_lines show.zones ++ (far_lines show.zones ++ (flat_map profile_lines show.profiles
+    ++ (map ban_line show.bans ++ (map scan_line show.scans ++ flat_map carrier_lines show.carriers)))))
 
 -- the line of a command, with its line feed
 unfoldable pub command_line : Command → List ℕ

@@ -5,7 +5,7 @@ use Rattle.rf_text.specs.declared.verb.Verb.{Verb}
 use Rattle.rf_text.specs.declared.verb.Verb.TheVariants as verb
 
 abbrev pub verbs : List Verb
-verbs = verb.Profile ∷ verb.Range ∷ verb.DropProfile ∷ verb.Zone ∷ verb.Couple ∷ verb.Uncouple ∷ verb.Carrier ∷ verb.Remove
+verbs = verb.Profile ∷ verb.Range ∷ verb.DropProfile ∷ verb.Zone ∷ verb.Couple ∷ verb.Uncouple ∷ verb.Far ∷ verb.Carrier ∷ verb.Remove
     ∷ verb.Time ∷ verb.Always ∷ verb.Set ∷ verb.Clear ∷ verb.Lock ∷ verb.Unlock ∷ verb.Ban ∷ verb.Unban
     ∷ verb.Scan ∷ verb.Unscan ∷ verb.Profiles ∷ verb.Undo ∷ verb.Redo ∷ verb.Report ∷ verb.Csv ∷ verb.Show
     ∷ verb.Free ∷ verb.Products ∷ verb.Solve ∷ verb.Place ∷ verb.Quit ∷ []
@@ -18,6 +18,7 @@ text_of verb.DropProfile = codes "drop-profile"
 text_of verb.Zone = codes "zone"
 text_of verb.Couple = codes "couple"
 text_of verb.Uncouple = codes "uncouple"
+text_of verb.Far = codes "far"
 text_of verb.Carrier = codes "carrier"
 text_of verb.Remove = codes "remove"
 text_of verb.Time = codes "time"

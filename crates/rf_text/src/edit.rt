@@ -1,7 +1,7 @@
 ghost use Rattle.std.specs.Prelude.{◌≡◌};
 ghost use Rattle.rf_text.specs.Edits as spec;
 
-use crate::operand::{Operand, at_most_one, numbers, one, three, two};
+use crate::operand::{Operand, at_most_one, one, profile_numbers, three, two};
 use crate::verb::Verb;
 use crate::words::Words;
 use rf_base::Name;
@@ -56,7 +56,7 @@ fn setup_by(verb: Verb, mut operands: Words<'_>) -> Option<Edit>
     match verb {
         Verb::Profile => {
             let name = Name::read(operands.next()?)?;
-            let numbers = numbers(operands)?;
+            let numbers = profile_numbers(operands)?;
             Some(Edit::AddProfile { name, numbers })
         }
         Verb::Range => {
@@ -82,6 +82,10 @@ fn setup_by(verb: Verb, mut operands: Words<'_>) -> Option<Edit>
         Verb::Uncouple => {
             let (a, b) = two(operands)?;
             Some(Edit::Uncouple { a, b })
+        }
+        Verb::Far => {
+            let (a, b) = two(operands)?;
+            Some(Edit::Far { a, b })
         }
         _ => exclusion_by(verb, operands),
     }

@@ -3,8 +3,10 @@ ghost use Rattle.rf_base.specs.Lines.{joined, spaced};
 ghost use Rattle.rf_text.specs.EditTexts as spec;
 ghost use Rattle.rf_text.specs.Verbs.{text_of};
 
+use crate::operand::FEWEST_NUMBERS;
 use crate::verb::Verb;
 use rf_base::{Name, NoMemory};
+use rf_profiles::Profile;
 use rf_show::Edit;
 
 /// Writes the line of an edit, without a line feed; nothing where no line has it.
@@ -15,7 +17,7 @@ pub(crate) fn write_edit(text: &mut String, edit: &Edit) -> Result<(), NoMemory>
     match edit {
         Edit::AddProfile { name, numbers } => {
             write_named(text, Verb::Profile, name)?;
-            write_numbers(text, numbers.as_slice())
+            write_profile_numbers(text, numbers)
         }
         Edit::AddRange {
             name,
@@ -34,6 +36,10 @@ pub(crate) fn write_edit(text: &mut String, edit: &Edit) -> Result<(), NoMemory>
         }
         Edit::Uncouple { a, b } => {
             write_named(text, Verb::Uncouple, a)?;
+            write_name(text, b)
+        }
+        Edit::Far { a, b } => {
+            write_named(text, Verb::Far, a)?;
             write_name(text, b)
         }
         Edit::AddCarrier {
@@ -93,6 +99,20 @@ pub(crate) fn write_numbered(text: &mut String, verb: Verb, numbers: &[u32]) -> 
 {
     write_verb(text, verb)?;
     write_numbers(text, numbers)
+}
+
+// Writes the numbers of a profile, each after a space; the last is left out where it is 0.
+fn write_profile_numbers(
+    text: &mut String,
+    numbers: &[u32; Profile::NUMBERS],
+) -> Result<(), NoMemory>
+    ensures { OnOk result (string_bytes text.new ≡ string_bytes text.old ++ spaced (spec.number_words numbers.now)) }
+{
+    if numbers[FEWEST_NUMBERS] == 0 {
+        write_numbers(text, &numbers[..FEWEST_NUMBERS])
+    } else {
+        write_numbers(text, numbers.as_slice())
+    }
 }
 
 // Writes a space and a zone, where one is named.

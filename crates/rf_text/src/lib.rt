@@ -17,6 +17,6 @@ mod writing;
 
 pub use command::{Command, UnknownLine, read_command};
 pub use free::free_text;
-pub use show_law::lines_make_show;
+pub use show_law::{edits_stay_textual, lines_make_show};
 pub use show_lines::show_text;
 pub use writing::command_text;

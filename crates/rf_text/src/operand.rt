@@ -11,6 +11,10 @@ use crate::separator::read_sep;
 use crate::words::Words;
 use rf_base::{Decimal, FileName, Name, read_decimal, read_number};
 use rf_exclusions::Sep;
+use rf_profiles::Profile;
+
+/// How many numbers the line of a profile has at least: all but the last.
+pub(crate) const FEWEST_NUMBERS: usize = Profile::NUMBERS - 1;
 
 /// What a word of a line is read as.
 pub(crate) trait Operand: Copy {
@@ -100,14 +104,16 @@ pub(crate) fn three<A: Operand, B: Operand, C: Operand>(mut words: Words<'_>) ->
     Some((first, second, third))
 }
 
-/// As many numbers as a profile has after its name.
-pub(crate) fn numbers(mut words: Words<'_>) -> Option<[u32; 9]>
-    ensures { result ≡ spec.many 9 number_of words.entry }
+/// The numbers of a profile after its name, of which the last is 0 where it is left out.
+#[tactic(auto, unfolding(crate::specs::Operands::profile_numbers))]
+pub(crate) fn profile_numbers(mut words: Words<'_>) -> Option<[u32; Profile::NUMBERS]>
+    ensures { result ≡ spec.profile_numbers words.entry }
 {
-    let mut numbers = [0; 9];
-    for number in numbers.iter_mut() {
-        let value = u32::read(words.next()?)?;
-        *number = value;
+    let mut numbers = [0; Profile::NUMBERS];
+    for place in 0..FEWEST_NUMBERS {
+        numbers[place] = u32::read(words.next()?)?;
     }
-    words.is_empty().then_some(numbers)
+    let last = at_most_one::<u32>(words)?;
+    numbers[FEWEST_NUMBERS] = last.unwrap_or(0);
+    Some(numbers)
 }

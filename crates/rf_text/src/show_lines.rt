@@ -8,7 +8,7 @@ use rf_base::{Khz, Name, NoMemory};
 use rf_exclusions::{Ban, ScanSet};
 use rf_profiles::{Profile, Range};
 use rf_show::{Carrier, Edit, Show};
-use rf_zones::Zones;
+use rf_zones::{Coupling, Zones};
 use std::alloc::Global;
 
 /// The reply to `show`: how many lines there are, and then the lines that make the show of a first one.
@@ -29,7 +29,8 @@ fn lines_of(alloc: Global, show: &Show) -> Result<CommandLines, NoMemory>
 {
     let mut lines = CommandLines::new(alloc);
     add_zones(&mut lines, show.zones())?;
-    add_couplings(&mut lines, show.zones())?;
+    add_couplings(&mut lines, show.zones(), Coupling::Coupled)?;
+    add_couplings(&mut lines, show.zones(), Coupling::Far)?;
     add_profiles(&mut lines, show.profiles())?;
     add_bans(&mut lines, show.bans())?;
     add_scans(&mut lines, show.scans())?;
@@ -48,30 +49,52 @@ fn add_zones(lines: &mut CommandLines, zones: &Zones) -> Result<(), NoMemory>
     Ok(())
 }
 
-fn add_couplings(lines: &mut CommandLines, zones: &Zones) -> Result<(), NoMemory>
+// Adds a line for each two zones that stand so to each other.
+fn add_couplings(
+    lines: &mut CommandLines,
+    zones: &Zones,
+    coupling: Coupling,
+) -> Result<(), NoMemory>
     requires { spec.IsCounted lines.old }
-    ensures { OnOk result (spec.Adds lines.old lines.new (spec.couple_lines zones.now)) }
+    ensures { OnOk result (spec.Adds lines.old lines.new (spec.pairs_that coupling zones.now)) }
 {
     for a in 0..zones.count() {
-        add_couplings_of(lines, zones, a)?;
+        add_couplings_with(lines, zones, coupling, a)?;
     }
     Ok(())
 }
 
-fn add_couplings_of(lines: &mut CommandLines, zones: &Zones, a: u8) -> Result<(), NoMemory>
+// Adds a line for each later zone that stands so to a zone.
+fn add_couplings_with(
+    lines: &mut CommandLines,
+    zones: &Zones,
+    coupling: Coupling,
+    a: u8,
+) -> Result<(), NoMemory>
     requires counted { spec.IsCounted lines.old }
     requires within { a < length zones.now.names }
-    ensures { OnOk result (spec.Adds lines.old lines.new (spec.couplings_of zones.now a)) }
+    ensures { OnOk result (spec.Adds lines.old lines.new (spec.pairs_with coupling zones.now a)) }
 {
     let count = zones.count();
     for b in a + 1..count {
-        if !zones.heard(a, b) {
+        if zones.coupling(a, b) != coupling {
             continue;
         }
-        let (a, b) = (zones.name(a), zones.name(b));
-        lines.add(&Command::Change(Edit::Couple { a, b }))?;
+        let edit = coupling_edit(coupling, zones.name(a), zones.name(b));
+        lines.add(&Command::Change(edit))?;
     }
     Ok(())
+}
+
+// The edit that makes two zones stand so to each other.
+fn coupling_edit(coupling: Coupling, a: Name, b: Name) -> Edit
+    ensures { result ≡ spec.coupling_edit coupling a b }
+{
+    match coupling {
+        Coupling::Apart => Edit::Uncouple { a, b },
+        Coupling::Coupled => Edit::Couple { a, b },
+        Coupling::Far => Edit::Far { a, b },
+    }
 }
 
 fn add_profiles(lines: &mut CommandLines, profiles: &[Profile]) -> Result<(), NoMemory>
@@ -114,6 +137,7 @@ fn add_first_range(
             margins.m3t3,
             margins.m2t5,
             margins.m3t5,
+            margins.m2t7,
         ],
     }))
 }

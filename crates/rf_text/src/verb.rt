@@ -10,6 +10,7 @@ pub(crate) enum Verb {
     Zone,
     Couple,
     Uncouple,
+    Far,
     Carrier,
     Remove,
     Time,
@@ -35,13 +36,14 @@ pub(crate) enum Verb {
     Quit,
 }
 
-static VERBS: [Verb; 29] = [
+static VERBS: [Verb; 30] = [
     Verb::Profile,
     Verb::Range,
     Verb::DropProfile,
     Verb::Zone,
     Verb::Couple,
     Verb::Uncouple,
+    Verb::Far,
     Verb::Carrier,
     Verb::Remove,
     Verb::Time,
@@ -79,6 +81,7 @@ impl Verb {
             Verb::Zone => "zone",
             Verb::Couple => "couple",
             Verb::Uncouple => "uncouple",
+            Verb::Far => "far",
             Verb::Carrier => "carrier",
             Verb::Remove => "remove",
             Verb::Time => "time",

@@ -12,6 +12,7 @@ use rf_log::Cond;
 use rf_problem::Problem;
 use rf_propagate::{Engine, Outcome};
 use rf_props::{ProblemTheory, Rules, engine_of, trail_of};
+use rf_terms::MARGINS;
 use std::alloc::Global;
 use std::test::Fail;
 
@@ -44,9 +45,9 @@ fn width(state: &mut u32) -> u32 {
     (chance(state) % 4).saturating_mul(30)
 }
 
-fn widths(state: &mut u32) -> [u32; 4] {
-    let mut margins = [0; 4];
-    for i in 0..4 {
+fn widths(state: &mut u32) -> [u32; MARGINS] {
+    let mut margins = [0; MARGINS];
+    for i in 0..MARGINS {
         margins[i] = width(state);
     }
     margins
@@ -63,6 +64,7 @@ fn carrier(state: &mut u32) -> Row {
         spacing,
         margins,
         hears_all: chance(state) % 4 != 0,
+        reaches_all: chance(state) % 2 == 0,
     }
 }
 

@@ -5,6 +5,7 @@ ghost use Rattle.rf_show.specs.After.{is_edit};
 use crate::hold::{Broken, hold, told};
 use rf_base::{Name, NoMemory};
 use rf_editor::Editor;
+use rf_profiles::Profile;
 use rf_show::Edit;
 use rf_text::show_text;
 use std::alloc::Global;
@@ -30,7 +31,7 @@ impl Draws {
     }
 }
 
-const NUMBERS: [u32; 9] = [500_000, 501_000, 25, 350, 0, 100, 50, 0, 0];
+const NUMBERS: [u32; Profile::NUMBERS] = [500_000, 501_000, 25, 350, 0, 100, 50, 0, 0, 25];
 
 /// The word of a number below 4; `main` is the first zone.
 fn word(number: u64) -> Option<Name> {
@@ -48,7 +49,7 @@ fn drawn_edit(draws: &mut Draws) -> Option<Edit>
     let name = word(draws.below(4))?;
     let other = word(draws.below(4))?;
     let number = draws.below(42) as u32;
-    Some(match draws.below(24) {
+    Some(match draws.below(25) {
         0 => Edit::AddProfile {
             name,
             numbers: NUMBERS,
@@ -87,6 +88,7 @@ fn drawn_edit(draws: &mut Draws) -> Option<Edit>
             hi: 500_000 + number,
             zone: Some(name),
         },
+        22 => Edit::Far { a: name, b: other },
         _ => Edit::Unban { number },
     })
 }

@@ -11,6 +11,7 @@ use rf_log::{Cond, Hint};
 use rf_problem::Problem;
 use rf_propagate::{Engine, Outcome};
 use rf_props::{ProblemTheory, Rules, engine_of, settle, trail_of};
+use rf_terms::MARGINS;
 use rf_trail::{Entry, Trail};
 use std::alloc::Global;
 use std::test::Fail;
@@ -82,31 +83,32 @@ fn leaves(alloc: Global, rows: &[Row], outcome: Outcome, left: u32) -> Result<bo
 }
 
 /// A carrier that may stand at two frequencies, the second above the first. It asks 350 kHz of spacing.
-fn either(low: u32, high: u32, margins: [u32; 4]) -> Row {
+fn either(low: u32, high: u32, margins: [u32; MARGINS]) -> Row {
     Row {
         freqs: [low, high, high.saturating_add(1), high.saturating_add(2)],
         allowed: [true, true, false, false],
         spacing: 350,
         margins,
         hears_all: true,
+        reaches_all: true,
     }
 }
 
 /// A carrier that may stand at one frequency.
-fn at(khz: u32, margins: [u32; 4]) -> Row {
+fn at(khz: u32, margins: [u32; MARGINS]) -> Row {
     let mut row = either(khz, khz.saturating_add(1), margins);
     row.allowed[1] = false;
     row
 }
 
 /// A carrier that may stand nowhere.
-fn nowhere(khz: u32, margins: [u32; 4]) -> Row {
+fn nowhere(khz: u32, margins: [u32; MARGINS]) -> Row {
     let mut row = at(khz, margins);
     row.allowed[0] = false;
     row
 }
 
-const NONE: [u32; 4] = [0; 4];
+const NONE: [u32; MARGINS] = [0; MARGINS];
 
 fn spaced(alloc: Global) -> Result<[bool; 4], NoMemory> {
     let two = [either(500_000, 500_300, NONE); 2];
@@ -121,20 +123,26 @@ fn spaced(alloc: Global) -> Result<[bool; 4], NoMemory> {
     ])
 }
 
-fn struck_by_products(alloc: Global) -> Result<[bool; 3], NoMemory> {
-    let third = [100, 0, 0, 0];
+fn struck_by_products(alloc: Global) -> Result<[bool; 4], NoMemory> {
+    let third = [100, 0, 0, 0, 0];
     let of_two = [
         at(500_000, third),
         at(500_400, third),
         either(500_800, 501_200, third),
     ];
-    let fifth = [0, 0, 100, 0];
+    let fifth = [0, 0, 100, 0, 0];
     let of_order_five = [
         at(500_400, fifth),
         either(501_200, 501_600, fifth),
         at(500_000, fifth),
     ];
-    let three = [0, 50, 0, 0];
+    let seventh = [0, 0, 0, 0, 100];
+    let of_order_seven = [
+        at(500_000, seventh),
+        at(500_400, seventh),
+        either(501_600, 502_000, seventh),
+    ];
+    let three = [0, 50, 0, 0, 0];
     let middle = either(504_000, 506_000, three);
     let of_three = [
         at(500_000, three),
@@ -145,13 +153,14 @@ fn struck_by_products(alloc: Global) -> Result<[bool; 3], NoMemory> {
     Ok([
         leaves(alloc, &of_two, Outcome::Quiet, 3)?,
         leaves(alloc, &of_order_five, Outcome::Quiet, 3)?,
+        leaves(alloc, &of_order_seven, Outcome::Quiet, 3)?,
         leaves(alloc, &of_three, Outcome::Quiet, 4)?,
     ])
 }
 
 fn rows_settle(alloc: Global) -> Result<(), Broken> {
     let [two, near, fixed, banned] = spaced(alloc)?;
-    let [of_two, of_order_five, of_three] = struck_by_products(alloc)?;
+    let [of_two, of_order_five, of_order_seven, of_three] = struck_by_products(alloc)?;
     hold(&[
         (two, "with two channels each nothing falls"),
         (near, "nearer than the spacing"),
@@ -159,6 +168,7 @@ fn rows_settle(alloc: Global) -> Result<(), Broken> {
         (banned, "no channel is allowed"),
         (of_two, "a product of two carriers"),
         (of_order_five, "a product of order five"),
+        (of_order_seven, "a product of order seven"),
         (of_three, "a product of three carriers"),
     ])
 }
@@ -171,6 +181,7 @@ fn wide(third: bool) -> Row {
         spacing: 0,
         margins: NONE,
         hears_all: true,
+        reaches_all: true,
     }
 }
 

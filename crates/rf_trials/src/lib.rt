@@ -5,6 +5,8 @@
 #[cfg(test)]
 mod chances;
 #[cfg(test)]
+mod copies;
+#[cfg(test)]
 mod domains;
 #[cfg(test)]
 mod editors;

@@ -19,13 +19,14 @@ pub(crate) fn only(row: &[bool; 4]) -> Option<usize> {
 }
 
 fn asked(row: &Row, kind: Kind) -> u32 {
-    let [m2t3, m3t3, m2t5, m3t5] = row.margins;
+    let [m2t3, m3t3, m2t5, m3t5, m2t7] = row.margins;
     match asks(kind) {
         Margin::Spacing => row.spacing,
         Margin::M2t3 => m2t3,
         Margin::M3t3 => m3t3,
         Margin::M2t5 => m2t5,
         Margin::M3t5 => m3t5,
+        Margin::M2t7 => m2t7,
     }
 }
 
@@ -42,18 +43,19 @@ fn margin(small: &Small, kind: Kind, tuple: &[usize]) -> u32 {
     }
 }
 
-fn hear(small: &Small, a: usize, b: usize) -> bool {
-    if a < b {
-        return small[b % 4].hears_all || a % 2 == 0;
-    }
-    a != b && (small[a % 4].hears_all || b % 2 == 0)
+/// Whether two distinct carriers may be together in a set of so many.
+fn meet(small: &Small, size: usize, a: usize, b: usize) -> bool {
+    let (earlier, later) = if a < b { (a, b) } else { (b, a) };
+    let row = small[later % 4];
+    let reaches = size == 2 && row.reaches_all;
+    a != b && (row.hears_all || reaches || earlier % 2 == 0)
 }
 
-/// Distinct carriers that hear each other, in the order of the kind.
+/// Distinct carriers that may be together, in the order of the kind.
 fn is_instance(small: &Small, kind: Kind, tuple: &[usize]) -> bool {
     for i in 0..tuple.len() {
         for j in 0..i {
-            if !hear(small, tuple[i], tuple[j]) {
+            if !meet(small, tuple.len(), tuple[i], tuple[j]) {
                 return false;
             }
         }

@@ -9,6 +9,7 @@ use crate::shows::{add_carrier, add_profile, add_time, change};
 use rf_base::{Items, Khz, MemSink, Name};
 use rf_checker::check;
 use rf_log::{LogLine, Verdict};
+use rf_profiles::Profile;
 use rf_rules::keeps;
 use rf_search::MAX_BUDGET;
 use rf_show::{Edit, Show};
@@ -177,7 +178,7 @@ impl Chance {
 }
 
 /// The numbers of a profile of two to four channels near 500 MHz.
-fn some_numbers(chance: &mut Chance) -> [u32; 9] {
+fn some_numbers(chance: &mut Chance) -> [u32; Profile::NUMBERS] {
     let from = 500_000u32.saturating_add(chance.width(8));
     let step = 100u32.saturating_add(chance.width(6));
     let steps = chance.below(3) + 1;
@@ -187,20 +188,24 @@ fn some_numbers(chance: &mut Chance) -> [u32; 9] {
     let m3t3 = chance.width(4);
     let m2t5 = chance.width(3);
     let m3t5 = chance.width(3);
-    [from, to, step, spacing, 25, m2t3, m3t3, m2t5, m3t5]
+    let m2t7 = chance.width(3);
+    [
+        from, to, step, spacing, 25, m2t3, m3t3, m2t5, m3t5, m2t7,
+    ]
 }
 
-/// Profiles `P` and `Q`, and a zone `far` that may be coupled with `main`.
+/// Profiles `P` and `Q`, and a zone `far` that may be coupled with `main`, also far.
 fn add_places(show: &mut Show, chance: &mut Chance) -> Result<(), Broken> {
     add_profile(show, b"P", some_numbers(chance))?;
     add_profile(show, b"Q", some_numbers(chance))?;
     let far = Name::read(b"far").ok_or("a name")?;
     change(show, Edit::AddZone { name: far })?;
-    if !chance.tossed() {
-        return Ok(());
-    }
     let main = Name::read(b"main").ok_or("a name")?;
-    change(show, Edit::Couple { a: main, b: far })
+    match chance.below(4) {
+        0 => Ok(()),
+        1 => change(show, Edit::Far { a: main, b: far }),
+        _ => change(show, Edit::Couple { a: main, b: far }),
+    }
 }
 
 /// A carrier, which is on for ten minutes or always.

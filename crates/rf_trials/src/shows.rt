@@ -4,6 +4,7 @@ ghost use Rattle.rf_show.specs.After.{is_edit};
 
 use crate::hold::Broken;
 use rf_base::Name;
+use rf_profiles::Profile;
 use rf_show::{Edit, Show};
 use std::alloc::Global;
 
@@ -17,7 +18,7 @@ pub(crate) fn change(show: &mut Show, edit: Edit) -> Result<(), Broken>
     }
 }
 
-pub(crate) fn add_profile(show: &mut Show, word: &[u8], numbers: [u32; 9]) -> Result<(), Broken> {
+pub(crate) fn add_profile(show: &mut Show, word: &[u8], numbers: [u32; Profile::NUMBERS]) -> Result<(), Broken> {
     let name = Name::read(word).ok_or("a name")?;
     change(show, Edit::AddProfile { name, numbers })
 }
@@ -46,7 +47,7 @@ pub(crate) fn add_time(show: &mut Show, word: &[u8], from: u32, to: u32) -> Resu
 /// A show with three carriers of a profile with 401 channels.
 pub(crate) fn evenly_spaced(alloc: Global) -> Result<Show, Broken> {
     let mut show = Show::new(alloc)?;
-    let numbers = [500_000, 510_000, 25, 350, 0, 100, 50, 0, 0];
+    let numbers = [500_000, 510_000, 25, 350, 0, 100, 50, 0, 0, 0];
     add_profile(&mut show, b"P", numbers)?;
     for word in [b"a", b"b", b"c"] {
         add_carrier(&mut show, word, b"P", b"main")?;

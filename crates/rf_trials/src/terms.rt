@@ -8,11 +8,15 @@ fn windows() -> Result<(), Broken> {
     let without = window(Kind::T3Two, 0, &[500_000, 500_400], 0).is_none();
     let between = window(Kind::T5Two, 1, &[500_000, 500_001], 1).is_none();
     let single = window(Kind::T5Two, 1, &[500_000, 500_000], 1) == Some((500_000, 500_000));
+    let quarter = window(Kind::T7Two, 0, &[500_000, 501_600], 100) == Some((500_376, 500_424));
+    let third = window(Kind::T7Two, 1, &[500_400, 501_600], 100) == Some((499_967, 500_033));
     hold(&[
         (middle, "half of a margin of 100"),
         (without, "no margin"),
         (between, "no whole number between"),
         (single, "one number alone"),
+        (quarter, "a quarter of a margin of 100"),
+        (third, "a third of it"),
     ])
 }
 
@@ -30,13 +34,15 @@ fn forms() -> Result<(), Broken> {
 }
 
 fn kinds_have_their_texts() -> bool {
-    let texts = ["spacing", "2a-b", "a+b-c", "3a-2b", "3a-b-c", "2a+b-2c"];
+    let texts = [
+        "spacing", "2a-b", "a+b-c", "3a-2b", "3a-b-c", "2a+b-2c", "4a-3b",
+    ];
     for (i, kind) in kinds().iter().enumerate() {
-        if i >= 6 || text(*kind) != texts[i] {
+        if i >= 7 || text(*kind) != texts[i] {
             return false;
         }
     }
-    kinds().len() == 6
+    kinds().len() == 7
 }
 
 fn all() -> Result<(), Broken> {

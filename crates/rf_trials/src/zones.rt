@@ -1,13 +1,13 @@
 //! Who hears whom, and who shares a minute.
 use crate::hold::{Broken, hold, told};
 use rf_base::Name;
-use rf_zones::{Slices, Times, Zones, share_minute};
+use rf_zones::{Coupling, MAX_CARRIERS, Mask, Slices, Times, Zones, share_minute};
 use std::alloc::Global;
 use std::test::Fail;
 
 fn add(zones: &mut Zones, word: &[u8]) -> bool {
     match Name::read(word) {
-        Some(name) if zones.find(name).is_none() && zones.count() < 32 => {
+        Some(name) if zones.find(name).is_none() && zones.count() < Zones::MAX => {
             zones.add(name);
             true
         }
@@ -15,15 +15,23 @@ fn add(zones: &mut Zones, word: &[u8]) -> bool {
     }
 }
 
-fn set_coupled(zones: &mut Zones, a: u8, b: u8, on: bool) {
+fn couple(zones: &mut Zones, a: u8, b: u8, coupling: Coupling) {
     if a >= zones.count() || b >= zones.count() {
         return;
     }
-    zones.set_coupled(a, b, on);
+    match coupling {
+        Coupling::Apart => zones.uncouple(a, b),
+        Coupling::Coupled => zones.couple(a, b),
+        Coupling::Far => zones.far(a, b),
+    }
 }
 
 fn hear(zones: &Zones, a: u8, b: u8) -> bool {
     a < zones.count() && b < zones.count() && zones.heard(a, b)
+}
+
+fn reach(zones: &Zones, a: u8, b: u8) -> bool {
+    a < zones.count() && b < zones.count() && zones.reach(a, b)
 }
 
 fn is_main(zones: &Zones) -> bool {
@@ -38,9 +46,9 @@ fn coupled_zones() -> Result<(), Broken> {
     let mut zones = Zones::new();
     let stage = add(&mut zones, b"stage");
     let hall = add(&mut zones, b"hall");
-    set_coupled(&mut zones, 0, 1, true);
-    set_coupled(&mut zones, 2, 1, true);
-    set_coupled(&mut zones, 2, 2, true);
+    couple(&mut zones, 0, 1, Coupling::Coupled);
+    couple(&mut zones, 2, 1, Coupling::Coupled);
+    couple(&mut zones, 2, 2, Coupling::Coupled);
     hold(&[
         (stage && hall, "two zones more"),
         (is_main(&zones), "main is the first of three"),
@@ -50,12 +58,27 @@ fn coupled_zones() -> Result<(), Broken> {
         (hear(&zones, 1, 2), "the other two as well"),
         (!hear(&zones, 0, 2), "coupling is not transitive"),
     ])?;
-    set_coupled(&mut zones, 1, 2, false);
-    set_coupled(&mut zones, 2, 2, false);
+    couple(&mut zones, 1, 2, Coupling::Apart);
+    couple(&mut zones, 2, 2, Coupling::Apart);
     hold(&[
         (!hear(&zones, 2, 1), "no more coupled"),
         (hear(&zones, 2, 2), "a zone hears itself always"),
         (hear(&zones, 0, 1), "the others stay coupled"),
+    ])?;
+    couple(&mut zones, 2, 0, Coupling::Far);
+    couple(&mut zones, 1, 0, Coupling::Far);
+    couple(&mut zones, 2, 2, Coupling::Far);
+    hold(&[
+        (!hear(&zones, 0, 1), "coupled far, and no longer near"),
+        (reach(&zones, 0, 1), "far coupled zones reach each other"),
+        (reach(&zones, 0, 2), "in either order"),
+        (!reach(&zones, 1, 2), "far coupling is not transitive"),
+        (hear(&zones, 2, 2), "a zone hears itself always"),
+    ])?;
+    couple(&mut zones, 0, 1, Coupling::Coupled);
+    hold(&[
+        (hear(&zones, 0, 1), "coupled, and no longer far"),
+        (reach(&zones, 1, 0), "coupled zones reach each other"),
     ])
 }
 
@@ -84,7 +107,7 @@ fn minutes() -> Result<(), Broken> {
     ])
 }
 
-fn have(masks: &[u64], set: u64) -> bool {
+fn have(masks: &[Mask], set: Mask) -> bool {
     for mask in masks {
         if *mask & set == set {
             return true;
@@ -118,10 +141,34 @@ fn slices(alloc: Global) -> Result<(), Broken> {
     ])
 }
 
+// All are always on but two: the last one in minute 0 alone, another in minute 5 alone.
+fn slices_of_all(alloc: Global) -> Result<(), Broken> {
+    let mut all = [Times::new(); MAX_CARRIERS];
+    all[MAX_CARRIERS - 1] = times_of(&[(0, 1)]).ok_or("times")?;
+    all[64] = times_of(&[(5, 6)]).ok_or("times")?;
+    let slices = Slices::of(alloc, &all)?;
+    let first: Mask = 1;
+    hold(&[
+        (
+            have(slices.masks(), first | first << 95),
+            "the first and the last share minute 0",
+        ),
+        (
+            have(slices.masks(), first << 63 | first << 64),
+            "the sixty-fourth and the next share minute 5",
+        ),
+        (
+            !have(slices.masks(), first << 64 | first << 95),
+            "the last shares no minute with that one",
+        ),
+    ])
+}
+
 fn all(alloc: Global) -> Result<(), Broken> {
     coupled_zones()?;
     minutes()?;
-    slices(alloc)
+    slices(alloc)?;
+    slices_of_all(alloc)
 }
 
 #[test]

@@ -1,7 +1,10 @@
-use Rattle.std.proofs.Common.{◌≡◌, ℕ, suc, zero, Bool, true, false, ◌+◌, ◌-◌, ◌<◌, ◌≤◌, List, [], ◌∷◌, ◌++◌, length, get_or, set, take, drop, replicate, refl, ap, sym, ◌∙◌, not, append_assoc, arith, length-append}
+use Rattle.std.proofs.Common.{◌≡◌, ℕ, suc, zero, true, ◌+◌, ◌-◌, ◌<◌, ◌≤◌, List, [], ◌∷◌, ◌++◌, length, get_or, set, take, drop, replicate, refl, ap, sym, ◌∙◌, append_assoc, arith, length-append}
 use Rattle.std.specs.List.{list_all}
 use Rattle.std.proofs.lemmas.List.{length-set, set-set, length-take-le, length-replicate, replicate-append-replicate, set-append_left, take_at, take_more, take_more_set, take-append-drop, take-set, length_push, take-take}
+use Rattle.rf_zones.specs.Couplings.{is_apart}
 use Rattle.rf_zones.specs.Filled.{filled_to}
+use Rattle.rf_zones.specs.declared.coupling.Coupling.{Coupling}
+use Rattle.rf_zones.specs.declared.coupling.Coupling.TheVariants.{Apart, Coupled, Far}
 
 pub length-filled : {X : Type 0} (room : ℕ) (d : X) (xs : List X) → length xs ≤ room → length (filled_to room d xs) ≡ room
 unfolding filled_to
@@ -86,15 +89,16 @@ shrunk_cells {X} room len n d cells full sized within fewer off =
     sym (filled-more room n d (take (len - n) (take len cells)) (omega arith)) ∙ ap (filled_to room d) split ∙ full in
     (ap (filled_to room d) taken ∙ whole, ap length taken ∙ size, taken)
 
--- flags that are all off
-pub all_off : (xs : List Bool) → list_all not xs ≡ true → xs ≡ replicate (length xs) false
-all_off [] h = refl
-all_off (true ∷ xs) h = cc
-all_off (false ∷ xs) h = ap (λ ys. false ∷ ys) (all_off xs h)
+-- couplings that are all apart
+pub all_apart : (cs : List Coupling) → list_all is_apart cs ≡ true → cs ≡ replicate (length cs) Apart
+all_apart [] h = refl
+all_apart (Apart ∷ cs) h = ap (λ rest. Apart ∷ rest) (all_apart cs h)
+all_apart (Coupled ∷ cs) h = cc
+all_apart (Far ∷ cs) h = cc
 
-pub off_all : (n : ℕ) → list_all not (replicate n false) ≡ true
-off_all zero = refl
-off_all (suc n) = off_all n
+pub apart_all : (n : ℕ) → list_all is_apart (replicate n Apart) ≡ true
+apart_all zero = refl
+apart_all (suc n) = apart_all n
 
 -- the first filler is one
 filled-next : {X : Type 0} (room len : ℕ) (d : X) (xs : List X) → length xs ≡ len → len < room → set (filled_to room d xs) len d ≡ filled_to room d xs

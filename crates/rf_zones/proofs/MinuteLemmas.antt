@@ -3,7 +3,8 @@ use Rattle.std.specs.List.{list_all, list_any}
 use Rattle.std.proofs.lemmas.Bool.{cases_Bool, cases_lt, and_parts, and_from, or_parts, or_cases, or_left, or_right, ltb-true, leb-true, lt-ltb, le-leb, eqb-true, eqb-false, eq-eqb, not-true, not-false, both_ways, false_from_ne_true}
 use Rattle.std.proofs.lemmas.List.Folds.{Any-from_list_any, list_any_at}
 use Rattle.rf_zones.specs.Times.{is_on, holds, is_interval}
-use Rattle.rf_zones.specs.Slices.{some_below, on_at, share_minute, has_bits, mask_at, is_slice}
+use Rattle.rf_zones.specs.Masks.{has_bits}
+use Rattle.rf_zones.specs.Slices.{some_below, on_at, share_minute, mask_at, is_slice}
 use Rattle.rf_zones.specs.Timed.{share_begin}
 use Rattle.rf_zones.proofs.BitLemmas.{mask_bits}
 

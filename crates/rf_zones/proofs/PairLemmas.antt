@@ -3,6 +3,8 @@ use Rattle.std.proofs.lemmas.Bool.{cases_lt, lt-ltb, le-ltb}
 use Rattle.std.proofs.lemmas.Grind.{common_steps}
 use Rattle.std.proofs.Math.Nat.{mul-suc, suc-mul}
 use Rattle.rf_zones.specs.Zones.{pairs, pair_place}
+use Rattle.rf_zones.specs.declared.couplings.TheConstants.{MAX_PAIRS}
+use Rattle.rf_zones.specs.declared.zone_names.TheConstants.{MAX_ZONES}
 
 pub pairs-next : (n : ℕ) → pairs (n + 1) ≡ pairs n + n
 unfolding pairs
@@ -35,9 +37,10 @@ pub place_within : (a b n : ℕ) → a < b → b < n → pairs b + a < pairs n
 unfolding pairs
 place_within a b n low high = omega (arith, pairs-rise (suc b) n high)
 
-pub within_496 : (n : ℕ) → n ≤ 32 → pairs n ≤ 496
+-- there is room for the pairs of all zones
+pub pairs_fit : (n : ℕ) → n ≤ MAX_ZONES → pairs n ≤ MAX_PAIRS
 unfolding pairs
-within_496 n h = pairs-rise n 32 h
+pairs_fit n h = pairs-rise n MAX_ZONES h
 
 pub before_last : (n : ℕ) → 1 ≤ n → n - 1 ≤ pairs n
 unfolding pairs

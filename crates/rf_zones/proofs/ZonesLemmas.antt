@@ -1,4 +1,4 @@
-use Rattle.std.proofs.Common.{◌≡◌, ◌≢◌, ℕ, suc, zero, Bool, true, false, ◌+◌, ◌-◌, ◌<◌, ◌≤◌, List, [], ◌∷◌, ◌++◌, length, get_or, set, take, drop, replicate, nat_lt, cond, slice_get, Some, None, refl, ap, sym, ◌∙◌, not, arith, length-append}
+use Rattle.std.proofs.Common.{◌≡◌, ◌≢◌, ℕ, suc, zero, Bool, true, false, ◌+◌, ◌-◌, ◌<◌, ◌≤◌, List, [], ◌∷◌, ◌++◌, length, get_or, set, take, drop, replicate, nat_lt, cond, slice_get, Some, None, refl, ap, sym, ◌∙◌, arith, length-append}
 use Rattle.std.specs.List.{list_all, list_any, IsDistinct, position, position_or_len}
 use Rattle.std.specs.Cmp.Lexicographic.{nat_list_eq_equiv}
 use Rattle.std.proofs.lemmas.Bool.{ne_eqb}
@@ -8,8 +8,12 @@ use Rattle.std.proofs.lemmas.List.Folds.{list_any_none}
 use Rattle.std.proofs.lemmas.Map.Keys.{IsDistinct-push, apart_from_distinct, IsDistinct-from_apart, IsDistinct-cons}
 use Rattle.rf_base.specs.Name.{same_name}
 use Rattle.rf_zones.specs.ZoneNames.{main_zone}
-use Rattle.rf_zones.specs.Zones.{ZonesData, IsZones, first_zones, pairs, zone_of, with_zone, is_last_free, with_coupling, heard, pair_place}
-use Rattle.rf_zones.proofs.FilledLemmas.{all_off, off_all}
+use Rattle.rf_zones.specs.Couplings.{is_apart}
+use Rattle.rf_zones.specs.Zones.{ZonesData, IsZones, coupling_of, first_zones, pairs, zone_of, with_zone, is_last_free, with_coupling, pair_place}
+use Rattle.rf_zones.specs.declared.coupling.Coupling.{Coupling}
+use Rattle.rf_zones.specs.declared.coupling.Coupling.TheVariants.{Apart}
+use Rattle.rf_zones.specs.declared.zone_names.TheConstants.{MAX_ZONES}
+use Rattle.rf_zones.proofs.FilledLemmas.{all_apart, apart_all}
 use Rattle.rf_zones.proofs.PairLemmas.{pairs-next}
 
 pub get_left : {X : Type 0} (xs ys : List X) (k : ℕ) (x : X) → slice_get xs k ≡ Some x → slice_get (xs ++ ys) k ≡ Some x
@@ -35,14 +39,14 @@ pub no_zone : (zones : ZonesData) (name : List ℕ) → zone_of zones name ≡ N
 no_zone zones name h = sym (any_found (same_name name) zones.names)
     ∙ none_where_false (nat_lt (position_or_len (same_name name) zones.names) (length zones.names)) (position_or_len (same_name name) zones.names) h
 
-pub IsZones-with_zone : (zones : ZonesData) (name : List ℕ) → IsZones zones → zone_of zones name ≡ None → length zones.names < 32 → IsZones (with_zone zones name)
+pub IsZones-with_zone : (zones : ZonesData) (name : List ℕ) → IsZones zones → zone_of zones name ≡ None → length zones.names < MAX_ZONES → IsZones (with_zone zones name)
 IsZones-with_zone zones name ok fresh room = record {
   first = get_left zones.names (name ∷ []) 0 main_zone ok.first;
   distinct = IsDistinct-push nat_list_eq_equiv zones.names name ok.distinct (no_zone zones name fresh);
   few = omega (arith, length_push zones.names name);
   paired =
-      length-append zones.coupled (replicate (length zones.names) false)
-      ∙ ap (λ n. length zones.coupled + n) (length-replicate (length zones.names) false)
+      length-append zones.couplings (replicate (length zones.names) Apart)
+      ∙ ap (λ n. length zones.couplings + n) (length-replicate (length zones.names) Apart)
       ∙ ap (λ n. n + length zones.names) ok.paired
       ∙ sym (pairs-next (length zones.names))
       ∙ ap pairs (sym (length_push zones.names name));
@@ -67,46 +71,47 @@ distinct-last names name h =
     rw (any_found (same_name name) names ∙ apart) refl
 
 pub IsZones-front : (zones new : ZonesData) (name : List ℕ) → IsZones zones → zones.names ≡ new.names ++ name ∷ [] → 1 < length zones.names →
-    new.coupled ≡ take (length zones.coupled - length new.names) zones.coupled → IsZones new
+    new.couplings ≡ take (length zones.couplings - length new.names) zones.couplings → IsZones new
 IsZones-front zones new name ok is more coupled =
     let size : length zones.names ≡ length new.names + 1 = ap length is ∙ length_push new.names name in
-    let twice : length zones.coupled ≡ pairs (length new.names) + length new.names = ok.paired ∙ ap pairs size ∙ pairs-next (length new.names) in
+    let twice : length zones.couplings ≡ pairs (length new.names) + length new.names = ok.paired ∙ ap pairs size ∙ pairs-next (length new.names) in
     record {
       first = get_front new.names (name ∷ []) main_zone (omega arith) (rw is at ok.first);
       distinct = distinct-front new.names name (rw is at ok.distinct);
       few = omega (arith, ok.few);
       paired =
           ap length coupled
-          ∙ length-take-le (length zones.coupled - length new.names) zones.coupled (omega arith)
+          ∙ length-take-le (length zones.couplings - length new.names) zones.couplings (omega arith)
           ∙ omega arith;
     }
 
 -- a zone that was taken away is put back
-pub put_back : (zones new : ZonesData) (name : List ℕ) → zones.names ≡ new.names ++ name ∷ [] → length new.names ≤ length zones.coupled →
-    new.coupled ≡ take (length zones.coupled - length new.names) zones.coupled → list_all not (drop (length zones.coupled - length new.names) zones.coupled) ≡ true → with_zone new name ≡ zones
+pub put_back : (zones new : ZonesData) (name : List ℕ) → zones.names ≡ new.names ++ name ∷ [] → length new.names ≤ length zones.couplings →
+    new.couplings ≡ take (length zones.couplings - length new.names) zones.couplings → list_all is_apart (drop (length zones.couplings - length new.names) zones.couplings) ≡ true → with_zone new name ≡ zones
 put_back zones new name is room coupled free =
-    let rest : List Bool = drop (length zones.coupled - length new.names) zones.coupled in
-    let count : length rest ≡ length new.names = omega (arith, length-drop (length zones.coupled - length new.names) zones.coupled) in
-    let off : replicate (length new.names) false ≡ rest = ap (λ n. replicate n false) (sym count) ∙ sym (all_off rest free) in
-    let whole : new.coupled ++ replicate (length new.names) false ≡ zones.coupled =
-    ap (λ q. q ++ replicate (length new.names) false) coupled
-    ∙ ap (λ q. take (length zones.coupled - length new.names) zones.coupled ++ q) off
-    ∙ take-append-drop (length zones.coupled - length new.names) zones.coupled in
+    let rest : List Coupling = drop (length zones.couplings - length new.names) zones.couplings in
+    let count : length rest ≡ length new.names = omega (arith, length-drop (length zones.couplings - length new.names) zones.couplings) in
+    let apart : replicate (length new.names) Apart ≡ rest = ap (λ n. replicate n Apart) (sym count) ∙ sym (all_apart rest free) in
+    let whole : new.couplings ++ replicate (length new.names) Apart ≡ zones.couplings =
+    ap (λ q. q ++ replicate (length new.names) Apart) coupled
+    ∙ ap (λ q. take (length zones.couplings - length new.names) zones.couplings ++ q) apart
+    ∙ take-append-drop (length zones.couplings - length new.names) zones.couplings in
     rw (← is, whole) refl
 
 pub free-with_zone : (zones : ZonesData) (name : List ℕ) → is_last_free (with_zone zones name) ≡ true
 free-with_zone zones name =
-    let off : List Bool = replicate (length zones.names) false in
-    let place : length zones.coupled ≡ length (zones.coupled ++ off) - (length (zones.names ++ name ∷ []) - 1) =
-    omega (arith, length-append zones.coupled off, length-replicate {A = Bool} (length zones.names) false, length_push zones.names name) in
-    rw (drop_at zones.coupled off _ place) (off_all (length zones.names))
+    let apart : List Coupling = replicate (length zones.names) Apart in
+    let place : length zones.couplings ≡ length (zones.couplings ++ apart) - (length (zones.names ++ name ∷ []) - 1) =
+    omega (arith, length-append zones.couplings apart, length-replicate {A = Coupling} (length zones.names) Apart, length_push zones.names name) in
+    rw (drop_at zones.couplings apart _ place) (apart_all (length zones.names))
 
 pub first_ok : IsZones first_zones
 unfolding pairs IsDistinct
 first_ok = record { first = refl; distinct = IsDistinct-cons same_name main_zone [] tt tt; few = omega arith; paired = refl }
 
 -- a coupling is put back
-pub coupled_back : (names : List (List ℕ)) (coupled : List Bool) (a b : ℕ) (on : Bool) → a ≢ b →
-    with_coupling (record { names = names; coupled = set coupled (pair_place a b) on }) a b (heard (record { names = names; coupled = coupled }) a b) ≡ record { names = names; coupled = coupled }
-coupled_back names coupled a b on apart =
-    rw (ne_eqb a b apart, set-set coupled (pair_place a b) on (get_or coupled (pair_place a b) false), set-get_or coupled (pair_place a b) false) refl
+pub coupling_back : (names : List (List ℕ)) (couplings : List Coupling) (a b : ℕ) (coupling : Coupling) → a ≢ b →
+    with_coupling (record { names = names; couplings = set couplings (pair_place a b) coupling }) a b (coupling_of (record { names = names; couplings = couplings }) a b)
+    ≡ record { names = names; couplings = couplings }
+coupling_back names couplings a b coupling apart =
+    rw (ne_eqb a b apart, set-set couplings (pair_place a b) coupling (get_or couplings (pair_place a b) Apart), set-get_or couplings (pair_place a b) Apart) refl

@@ -1,5 +1,6 @@
 pub mod Couplings
 pub mod Filled
+pub mod Masks
 pub mod Slices
 pub mod Timed
 pub mod Times

@@ -1,6 +1,6 @@
-use Rattle.std.specs.Prelude.{ℕ, suc, zero, Bool, false, List, [], ◌∷◌, ◌+◌, ◌*◌, ◌&&◌, ◌||◌, nat_lt, nat_eq, ◌==◌, length, map, slice_index_or, if◌then◌else◌}
-use Rattle.std.specs.Int.{bit_at}
+use Rattle.std.specs.Prelude.{ℕ, suc, zero, Bool, false, List, [], ◌&&◌, ◌||◌, nat_lt, nat_eq, length, map, slice_index_or}
 use Rattle.std.specs.List.{list_all}
+use Rattle.rf_zones.specs.Masks.{with_bits}
 use Rattle.rf_zones.specs.Times.{is_on}
 
 -- whether a test passes for a number below n
@@ -15,15 +15,6 @@ on_at times minute k = nat_lt k (length times) && is_on (slice_index_or times k 
 -- whether all of a set are on in one minute of the week
 unfoldable pub share_minute : List (List (ℕ × ℕ)) → List ℕ → Bool
 share_minute times set = some_below 10080 (λ minute. list_all (on_at times minute) set)
-
--- whether a mask has the bits of all of a set
-abbrev pub has_bits : List ℕ → ℕ → Bool
-has_bits set mask = list_all (λ k. bit_at mask k == 1) set
-
--- the number with these bits, the lowest first
-abbrev pub with_bits : List Bool → ℕ
-with_bits [] = 0
-with_bits (b ∷ bs) = (if b then 1 else 0) + 2 * with_bits bs
 
 -- the mask of those that are on in a minute
 unfoldable pub mask_at : List (List (ℕ × ℕ)) → ℕ → ℕ

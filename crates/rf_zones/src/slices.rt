@@ -1,18 +1,14 @@
 ghost use Rattle.std.specs.Prelude.{◌≡◌, ℕ, ◌<◌, ◌≤◌, Bool, List, ◌||◌, true, false, IfOk, length, map, nat_eq};
 ghost use Rattle.std.specs.List.{list_all, list_any};
-ghost use Rattle.rf_zones.specs.Slices.{has_bits, is_slice, mask_at, share_minute};
+ghost use Rattle.rf_zones.specs.Masks.{has_bits};
+ghost use Rattle.rf_zones.specs.Slices.{is_slice, mask_at, share_minute};
 ghost use Rattle.rf_zones.specs.Times.{is_interval};
 
+use crate::mask::{self, MAX_CARRIERS, Mask};
 use crate::times::Times;
 use rf_base::NoMemory;
 use std::alloc::Global;
 use std::marker::Model;
-
-/// A set of carriers: bit k stands for carrier k.
-pub type Mask = u64;
-
-/// How many carriers there may be.
-pub const MAX_CARRIERS: usize = 64;
 
 /// Which carriers are on together: masks of those that are on in a minute. The masks are those of minute 0 and of each minute
 /// in which an interval begins, so that carriers have a common minute exactly where one mask has all their bits.
@@ -86,11 +82,11 @@ fn mask_at(times: &[Times], minute: u16) -> Mask
     requires within { minute < 10080 }
     ensures { result ≡ mask_at times.now minute }
 {
-    let mut mask = 0;
+    let mut on = mask::none();
     for k in 0..times.len() {
         if times[k].on(minute) {
-            mask |= 1 << k;
+            on = mask::with(on, k);
         }
     }
-    mask
+    on
 }

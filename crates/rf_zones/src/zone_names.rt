@@ -4,22 +4,26 @@ ghost use Rattle.rf_zones.specs.ZoneNames.{main_zone};
 use rf_base::Name;
 use std::marker::Model;
 
-/// At most 32 names, in order.
-#[derive(Clone, Copy)]
+/// How many zones there may be.
+pub const MAX_ZONES: usize = 32;
+
+/// At most `MAX_ZONES` names, in order.
+#[derive(Clone, Copy, PartialEq, Eq)]
 pub struct ZoneNames {
-    names: [Name; 32],
+    names: [Name; MAX_ZONES],
     len: u8,
 }
 
 impl Model for ZoneNames {
     ghost use Rattle.std.specs.Prelude.{◌≡◌, ◌≤◌, ℕ, List, length, take};
     ghost use Rattle.rf_zones.specs.ZoneNames.{filled};
+    ghost use Rattle.rf_zones.specs.declared.zone_names.TheConstants.{MAX_ZONES};
 
     ghost Value = { List (List ℕ) };
 
     ghost view = { λ z. take z.len z.names };
 
-    ghost invariant = { λ z. (filled (take z.len z.names) ≡ z.names) × (length (take z.len z.names) ≡ z.len) × (z.len ≤ 32) };
+    ghost invariant = { λ z. (filled (take z.len z.names) ≡ z.names) × (length (take z.len z.names) ≡ z.len) × (z.len ≤ MAX_ZONES) };
 
     ghost inverse = { λ names. record { names = filled names; len = length names } };
 }
@@ -30,7 +34,7 @@ impl ZoneNames {
         ensures { result ≡ main_zone ∷ [] }
     {
         ZoneNames {
-            names: [main_zone(); 32],
+            names: [main_zone(); MAX_ZONES],
             len: 1,
         }
     }
@@ -38,14 +42,14 @@ impl ZoneNames {
     /// The names.
     pub fn list(&self) -> &[Name]
         ensures value { result.now ≡ self.now }
-        ensures few { length self.now ≤ 32 }
+        ensures few { length self.now ≤ MAX_ZONES }
     {
         &self.names[..self.len as usize]
     }
 
     /// Adds a name at the end.
     pub fn push(&mut self, name: Name)
-        requires { length self.old < 32 }
+        requires { length self.old < MAX_ZONES }
         ensures { self.new ≡ self.old ++ name ∷ [] }
     {
         self.names[self.len as usize] = name;

@@ -1,14 +1,16 @@
-ghost use Rattle.std.specs.Prelude.{◌≡◌, ◌≢◌, ℕ, ◌<◌, ◌≤◌, ◌||◌, ◌&&◌, nat_eq, nat_lt, if◌then◌else◌, true, false, None, length, slice_get, Some, position, IsTrue};
+ghost use Rattle.std.specs.Prelude.{◌≡◌, ◌≢◌, ℕ, ◌<◌, ◌≤◌, ◌&&◌, nat_eq, nat_lt, if◌then◌else◌, true, None, length, slice_get, Some, position};
 ghost use Rattle.rf_base.specs.Name.{same_name};
-ghost use Rattle.rf_zones.specs.Zones.{IsZones, pair_place, pairs, first_zones, heard, is_last_free, same_pair, with_coupling, with_zone, without_last, zone_of};
+ghost use Rattle.rf_zones.specs.Zones.{ZonesData, IsMutual, IsZones, coupling_of, pair_place, pairs, first_zones, heard, is_last_free, reach, same_pair, with_coupling, with_zone, without_last, zone_of};
+ghost use Rattle.rf_zones.specs.declared.coupling.Coupling.TheVariants.{Apart, Coupled, Far};
 
-use crate::couplings::Couplings;
-use crate::zone_names::ZoneNames;
+use crate::coupling::Coupling;
+use crate::couplings::{Couplings, MAX_PAIRS};
+use crate::zone_names::{MAX_ZONES, ZoneNames};
 use rf_base::Name;
 use std::marker::Model;
 
-/// The zones of a show, numbered from 0 in the order in which they were added, `main` first; and which of them are coupled.
-#[derive(Clone, Copy)]
+/// The zones of a show, numbered from 0 in the order in which they were added, `main` first; and how they are coupled.
+#[derive(Clone, Copy, PartialEq, Eq)]
 pub struct Zones {
     names: ZoneNames,
     couplings: Couplings,
@@ -19,16 +21,16 @@ impl Model for Zones {
 
     ghost Value = { ZonesData };
 
-    ghost view = { λ z. record { names = z.names; coupled = z.couplings } };
+    ghost view = { λ z. record { names = z.names; couplings = z.couplings } };
 
-    ghost invariant = { λ z. IsZones (record { names = z.names; coupled = z.couplings }) };
+    ghost invariant = { λ z. IsZones (record { names = z.names; couplings = z.couplings }) };
 
-    ghost inverse = { λ z. record { names = z.names; couplings = z.coupled } };
+    ghost inverse = { λ z. record { names = z.names; couplings = z.couplings } };
 }
 
 impl Zones {
     /// How many zones there may be.
-    pub const MAX: u8 = 32;
+    pub const MAX: u8 = MAX_ZONES as u8;
 
     /// `main` alone.
     pub fn new() -> Zones
@@ -64,34 +66,54 @@ impl Zones {
         self.names.list()[z as usize]
     }
 
-    /// Whether two zones are the same or coupled.
+    /// How two zones stand to each other. A zone is coupled with itself.
+    pub fn coupling(&self, a: u8, b: u8) -> Coupling
+        requires a_in { a < length self.now.names }
+        requires b_in { b < length self.now.names }
+        ensures value { result ≡ coupling_of self.now a b }
+        ensures either { result ≡ coupling_of self.now b a }
+    {
+        if a == b {
+            return Coupling::Coupled;
+        }
+        self.couplings.at(pair_place(a, b))
+    }
+
+    /// Whether carriers in two zones hear each other: the zones are the same or coupled.
     pub fn heard(&self, a: u8, b: u8) -> bool
         requires a_in { a < length self.now.names }
         requires b_in { b < length self.now.names }
         ensures value { result ≡ heard self.now a b }
         ensures either { result ≡ heard self.now b a }
     {
-        if a == b {
-            return true;
-        }
-        self.couplings.at(pair_place(a, b))
+        matches!(self.coupling(a, b), Coupling::Coupled)
     }
 
-    /// Adds a zone that is coupled with none.
+    /// Whether carriers in two zones keep their spacing: the zones are the same or coupled, near or far.
+    pub fn reach(&self, a: u8, b: u8) -> bool
+        requires a_in { a < length self.now.names }
+        requires b_in { b < length self.now.names }
+        ensures value { result ≡ reach self.now a b }
+        ensures either { result ≡ reach self.now b a }
+    {
+        !matches!(self.coupling(a, b), Coupling::Apart)
+    }
+
+    /// Adds a zone that is apart from all others.
     pub fn add(&mut self, name: Name)
         requires fresh { zone_of self.old name ≡ None }
-        requires room { length self.old.names < 32 }
+        requires room { length self.old.names < MAX_ZONES }
         ensures added { self.new ≡ with_zone self.old name }
         ensures free { is_last_free self.new ≡ true }
         ensures back { without_last self.new ≡ self.old }
-        ensures hears { (x y : ℕ) → x < length self.new.names → y < length self.new.names → heard self.new x y ≡ (nat_eq x y || (nat_lt x (length self.old.names) && nat_lt y (length self.old.names) && heard self.old x y)) }
+        ensures stand { (x y : ℕ) → x < length self.new.names → y < length self.new.names → coupling_of self.new x y ≡ (if nat_eq x y then Coupled else (if nat_lt x (length self.old.names) && nat_lt y (length self.old.names) then coupling_of self.old x y else Apart)) }
     {
         let count = self.count();
         self.names.push(name);
         self.couplings.grow(count as u16);
     }
 
-    /// Takes the last zone away, which isn't the only one and is coupled with none, and answers its name.
+    /// Takes the last zone away, which isn't the only one and is apart from all others, and answers its name.
     pub fn drop_last(&mut self) -> Name
         requires more { 1 < length self.old.names }
         requires free { is_last_free self.old ≡ true }
@@ -104,16 +126,16 @@ impl Zones {
         self.names.pop()
     }
 
-    /// Couples two zones, or uncouples them. A zone with itself changes nothing.
-    pub fn set_coupled(&mut self, a: u8, b: u8, on: bool)
+    /// Changes how two zones stand to each other. A zone with itself changes nothing.
+    pub fn set_coupling(&mut self, a: u8, b: u8, coupling: Coupling)
         requires a_in { a < length self.old.names }
         requires b_in { b < length self.old.names }
-        ensures changed { self.new ≡ with_coupling self.old a b on }
-        ensures back { with_coupling self.new a b (heard self.old a b) ≡ self.old }
-        ensures hears { (x y : ℕ) → x < length self.old.names → y < length self.old.names → heard self.new x y ≡ (nat_eq x y || (if same_pair a b x y then on else heard self.old x y)) }
+        ensures changed { self.new ≡ with_coupling self.old a b coupling }
+        ensures back { with_coupling self.new a b (coupling_of self.old a b) ≡ self.old }
+        ensures stand { (x y : ℕ) → x < length self.old.names → y < length self.old.names → coupling_of self.new x y ≡ (if nat_eq x y then Coupled else (if same_pair a b x y then coupling else coupling_of self.old x y)) }
     {
         if a != b {
-            self.couplings.set(pair_place(a, b), on);
+            self.couplings.set(pair_place(a, b), coupling);
         }
     }
 
@@ -121,20 +143,34 @@ impl Zones {
     pub fn couple(&mut self, a: u8, b: u8)
         requires a_in { a < length self.old.names }
         requires b_in { b < length self.old.names }
-        ensures { self.new ≡ with_coupling self.old a b true }
+        ensures { self.new ≡ with_coupling self.old a b Coupled }
     {
-        self.set_coupled(a, b, true);
+        self.set_coupling(a, b, Coupling::Coupled);
     }
 
-    /// Uncouples two zones. A zone with itself changes nothing.
+    /// Couples two zones far, and no longer near. A zone with itself changes nothing.
+    pub fn far(&mut self, a: u8, b: u8)
+        requires a_in { a < length self.old.names }
+        requires b_in { b < length self.old.names }
+        ensures { self.new ≡ with_coupling self.old a b Far }
+    {
+        self.set_coupling(a, b, Coupling::Far);
+    }
+
+    /// Uncouples two zones, near or far. A zone with itself changes nothing.
     pub fn uncouple(&mut self, a: u8, b: u8)
         requires a_in { a < length self.old.names }
         requires b_in { b < length self.old.names }
-        ensures { self.new ≡ with_coupling self.old a b false }
+        ensures { self.new ≡ with_coupling self.old a b Apart }
     {
-        self.set_coupled(a, b, false);
+        self.set_coupling(a, b, Coupling::Apart);
     }
 }
+
+/// How two zones stand to each other does not depend on their order, and each is coupled with itself.
+pub fn coupling_is_mutual()
+    ensures { (zones : ZonesData) → IsMutual zones }
+{}
 
 fn place_of(names: &[Name], name: Name) -> Option<usize>
     ensures { result ≡ position (same_name name) names.now }
@@ -144,8 +180,8 @@ fn place_of(names: &[Name], name: Name) -> Option<usize>
 
 // Where the pair of two zones stands.
 fn pair_place(a: u8, b: u8) -> u16
-    requires a_in { a < 32 }
-    requires b_in { b < 32 }
+    requires a_in { a < MAX_ZONES }
+    requires b_in { b < MAX_ZONES }
     requires apart { a ≢ b }
     ensures { result ≡ pair_place a b }
 {
@@ -158,9 +194,9 @@ fn pair_place(a: u8, b: u8) -> u16
 
 // How many pairs so many zones make.
 fn pairs(count: u8) -> u16
-    requires { count ≤ 32 }
+    requires { count ≤ MAX_ZONES }
     ensures value { result ≡ pairs count }
-    ensures within { result ≤ 496 }
+    ensures within { result ≤ MAX_PAIRS }
 {
     let count = count as u16;
     count * count.saturating_sub(1) / 2

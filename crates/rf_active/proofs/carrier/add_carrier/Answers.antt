@@ -1,7 +1,8 @@
-use Rattle.std.proofs.Common.{ap, sym, ◌∙◌, length}
+use Rattle.std.proofs.Common.{ap, refl, sym, ◌∙◌, length}
 use Rattle.std.proofs.lemmas.List.FromFn.{length-map-range_with_len}
 use Rattle.rf_show.specs.Query.{is_allowed}
 use Rattle.rf_show.specs.Case.{channels_of}
+use Rattle.rf_active.proofs.ActiveLemmas.{is_added}
 use Rattle.rf_active.proofs.ListLemmas.{channels_are}
 use Rattle.rf_active.proofs.carrier.add_carrier.Goals as goal
 
@@ -11,3 +12,11 @@ add-requires-clause-flagged c =
     ∙ length-map-range_with_len (is_allowed c.args.show.now c.args.carrier) 0 (length (channels_of c.args.show.now c.args.carrier))
     ∙ ap length (channels_are c.args.show.now c.args.carrier _ c.profile_of.ensures)
     ∙ sym (ap length c.in_ok-freqs.ensures.value)
+
+pub returns : goal.returns
+returns c =
+    let show = c.args.show.now in
+    let carrier = c.args.carrier in
+    let freqs = c.in_ok-freqs.ensures.value ∙ sym (channels_are show carrier _ c.profile_of.ensures) in
+    is_added show carrier c.meeters.result c.meeters-2.result c.args.problem.now c.add.new.self _ c.add.result c.meeters-2.ensures c.meeters.ensures
+    (rw (freqs, c.in_ok-allowed.ensures, c.spacing.ensures.value, c.margins.ensures.value) refl) c.add.ensures.ok

@@ -13,4 +13,4 @@ loop-carrier-preserved c = added_more c.args.show.now c.loop-carrier.carrier _ _
 pub returns : goal.returns
 returns c =
     let full : c.loop-carrier.carrier ≡ length c.args.show.now.carriers = omega (arith, c.loop-carrier-test.false, c.loop-carrier.auto.carrier-end, ap length c.carriers-carrier-end.ensures.value) in
-    same_case c.hearing_is_mutual.ensures c.args.show.now c.loop-carrier.problem (rw (← full) c.loop-carrier.invariant)
+    same_case c.meeting_is_mutual.ensures c.args.show.now c.loop-carrier.problem (rw (← full) c.loop-carrier.invariant)

@@ -1,4 +1,4 @@
-use Rattle.std.proofs.Common.{◌≡◌, ◌∙◌, ◌+◌, ◌++◌, ◌∷◌, [], ◌<◌, arith, refl, sym, length-append}
+use Rattle.std.proofs.Common.{◌≡◌, ◌∙◌, ◌++◌, ◌∷◌, [], arith, refl, sym, length-append}
 use Rattle.rf_log.proofs.BelowLemmas.{log_lines_few, log_more, line_below, no_log}
 use Rattle.rf_log.proofs.ReadingLemmas.{log-more}
 use Rattle.rf_log.proofs.log.read_log.Goals as goal

@@ -1,5 +1,4 @@
-use Rattle.std.proofs.Common.{◌≡◌, ◌≤◌, ◌+◌, [], length}
-use Rattle.std.specs.List.{All}
+use Rattle.std.proofs.Common.{◌≡◌, ◌≤◌, ◌+◌, length}
 use Rattle.rf_log.specs.LogText.{IsLog, log_of, log_with}
 use Rattle.rf_log.proofs.log.read_log.Given as goal
 

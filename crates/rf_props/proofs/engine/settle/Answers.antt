@@ -1,5 +1,5 @@
 use Rattle.std.proofs.Common.{refl}
-use Rattle.rf_props.proofs.KindLemmas.{every_kind}
+use Rattle.rf_terms.proofs.KindLaws.{every_kind}
 use Rattle.rf_props.proofs.engine.settle.Goals as goal
 
 pub returns-clause-closed : goal.returns-clause-closed

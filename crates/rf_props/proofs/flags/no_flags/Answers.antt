@@ -1,4 +1,4 @@
-use Rattle.rf_zones.specs.declared.slices.TheConstants.{MAX_CARRIERS}
+use Rattle.rf_zones.specs.declared.mask.TheConstants.{MAX_CARRIERS}
 use Rattle.rf_props.proofs.FlagLemmas.{none_flagged}
 use Rattle.rf_props.proofs.flags.no_flags.Goals as goal
 

@@ -3,7 +3,7 @@ use Rattle.std.specs.Prelude.{insert}
 use Rattle.std.proofs.lemmas.List.Elements.{All-same}
 use Rattle.std.proofs.lemmas.List.{length-map}
 use Rattle.rf_terms.specs.Kinds.{roles_of}
-use Rattle.rf_terms.proofs.FormLemmas.{table-roles}
+use Rattle.rf_terms.proofs.KindLaws.{four_roles}
 use Rattle.rf_domain.specs.Sets.{size_of}
 use Rattle.rf_log.specs.Case.{is_instance, is_among}
 use Rattle.rf_log.specs.declared.hint.Hint.TheVariants.{Rule}
@@ -124,7 +124,7 @@ pub is_left-requires : goal.is_left-requires
 is_left-requires c = omega (arith, ap length c.requires.counts, counts_length (case_of c.args.problem.now), count_is c.args.problem.now, c.requires.target)
 
 pub padded-requires-clause-few : goal.padded-requires-clause-few
-padded-requires-clause-few c = omega (arith, ap length c.with_target-all.ensures, length_insert c.args.others.now c.args.place c.args.target, c.requires.others, (table-roles c.args.kind).1)
+padded-requires-clause-few c = omega (arith, ap length c.with_target-all.ensures, length_insert c.args.others.now c.args.place c.args.target, c.requires.others, four_roles c.args.kind)
 
 pub remove_because-requires : goal.remove_because-requires
 remove_because-requires c = record {

@@ -1,5 +1,5 @@
 use Rattle.std.proofs.Common.{[], refl, ap, ◌∙◌}
-use Rattle.rf_props.proofs.KindLemmas.{every_kind}
+use Rattle.rf_terms.proofs.KindLaws.{every_kind}
 use Rattle.rf_search.specs.Out.{none}
 use Rattle.rf_search.proofs.UnderWay.{started_none}
 use Rattle.rf_search.proofs.problem.solve.Goals as goal

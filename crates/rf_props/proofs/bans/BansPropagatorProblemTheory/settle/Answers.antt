@@ -3,7 +3,6 @@ use Rattle.std.specs.Prelude.{Some}
 use Rattle.rf_log.specs.Case.{counts_of}
 use Rattle.rf_problem.specs.Problem.{ProblemData, case_of}
 use Rattle.rf_trail.specs.Trace.{box_of}
-use Rattle.rf_log.specs.Relations.{IsEmptied}
 use Rattle.rf_propagate.specs.Laws.{IsQuiet, Extends, same}
 use Rattle.rf_propagate.specs.declared.outcome.Outcome.TheVariants.{Quiet, Wiped}
 use Rattle.rf_props.specs.Bans.{KeepsAllowed}

@@ -1,7 +1,7 @@
 use Rattle.std.proofs.Common.{FitsSigned, ◌∙◌, Ok, w64, length, ap, arith, rules}
 use Rattle.std.proofs.lemmas.Int.{to_z-of_z}
 use Rattle.std.proofs.lemmas.List.{length-map}
-use Rattle.rf_terms.proofs.FormLemmas.{table-roles}
+use Rattle.rf_terms.proofs.KindLaws.{four_roles}
 use Rattle.rf_problem.specs.Problem.{case_of}
 use Rattle.rf_propagate.specs.Laws.{same}
 use Rattle.rf_props.specs.Sweeps.{left, sole_freq}
@@ -51,7 +51,7 @@ pub returns-else-branch-clause-live : goal.returns-else-branch-clause-live
 returns-else-branch-clause-live c = marked_on (record { counts = c.strike_within.ensures.counts; sound = c.strike_within.ensures.sound }) c.requires.live
 
 pub singles-requires-clause-few : goal.singles-requires-clause-few
-singles-requires-clause-few c = omega (arith, c.requires.others, (table-roles c.args.self.now.kind).1)
+singles-requires-clause-few c = omega (arith, c.requires.others, four_roles c.args.self.now.kind)
 
 pub window-requires-clause-others : goal.window-requires-clause-others
 window-requires-clause-others c =

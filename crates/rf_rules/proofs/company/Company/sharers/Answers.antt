@@ -1,5 +1,4 @@
-use Rattle.rf_rules.proofs.MaskLemmas.{has-none}
 use Rattle.rf_rules.proofs.company.Company.sharers.Goals as goal
 
 pub loop-slice-init : goal.loop-slice-init
-loop-slice-init c = λ k. has-none k
+loop-slice-init c = λ k. c.none-mask.ensures k

@@ -1,7 +1,6 @@
 use Rattle.std.proofs.Common.{◌≡◌, ◌∷◌, ◌++◌, [], ℕ, take}
 use Rattle.std.specs.List.{list_any}
-use Rattle.rf_zones.specs.Slices.{has_bits}
-use Rattle.rf_show.specs.Company.{has_bit}
+use Rattle.rf_zones.specs.Masks.{has_bit, has_bits}
 use Rattle.rf_rules.proofs.company.Company.sharers.Given as goal
 
 abbrev pub invariant-loop-slice : goal.invariant-loop-slice

@@ -1,4 +1,4 @@
-use Rattle.rf_rules.proofs.MaskLemmas.{all-below}
+use Rattle.rf_rules.proofs.CompanyLemmas.{all-below}
 use Rattle.rf_rules.proofs.company.Company.together.Goals as goal
 
 pub share_minute-requires : goal.share_minute-requires

@@ -6,7 +6,7 @@ use Rattle.rf_terms.specs.Kinds.{roles_of}
 use Rattle.rf_rules.specs.Tuples.{upto}
 use Rattle.rf_rules.specs.Instances.{AreCarriers}
 use Rattle.rf_rules.specs.Plans.{breaks_from}
-use Rattle.rf_rules.proofs.FormLemmas.{few-roles}
+use Rattle.rf_terms.proofs.KindLaws.{four_roles}
 use Rattle.rf_rules.proofs.SearchLemmas.{AreCarriers-push}
 use Rattle.rf_rules.proofs.PlanLemmas.{any-found, any-more, any-zero, breaks-hopeless, breaks-next}
 use Rattle.rf_rules.proofs.search.Search.+breaks.Goals as goal
@@ -26,7 +26,7 @@ loop-carrier-preserved-then-is_hopeless t c =
     (breaks-hopeless s.show.now s.ats.now s.kind (take c.args.depth c.args.roles) c.loop-carrier.carrier (roles_of s.kind - c.args.depth - 1) c.if-is_hopeless.ensures)
 
 more : (t : ℕ) (c : After-with-next t) → take (c.args.depth + 1) (set c.args.roles c.args.depth c.loop-carrier.carrier) ≡ take c.args.depth c.args.roles ++ c.loop-carrier.carrier ∷ []
-more t c = let four : length c.args.roles ≡ 4 = omega arith in take_more_set c.args.roles c.args.depth c.loop-carrier.carrier (omega (arith, four, few-roles c.args.self.now.kind, c.requires.depth))
+more t c = let four : length c.args.roles ≡ 4 = omega arith in take_more_set c.args.roles c.args.depth c.loop-carrier.carrier (omega (arith, four, four_roles c.args.self.now.kind, c.requires.depth))
 
 pub breaks-requires : goal.breaks-requires
 breaks-requires t c =

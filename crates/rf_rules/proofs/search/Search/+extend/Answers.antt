@@ -6,7 +6,7 @@ use Rattle.rf_rules.specs.Tuples.{upto, tuples}
 use Rattle.rf_rules.specs.Instances.{AreCarriers}
 use Rattle.rf_rules.specs.Searches.{broken_in}
 use Rattle.rf_rules.proofs.TallyLemmas.{same-more}
-use Rattle.rf_rules.proofs.FormLemmas.{few-roles}
+use Rattle.rf_terms.proofs.KindLaws.{four_roles}
 use Rattle.rf_rules.proofs.SearchLemmas.{step-start, step-skip, step-more, step-end, broken-no_candidate, AreCarriers-push}
 use Rattle.rf_rules.proofs.search.Search.+extend.Goals as goal
 use Rattle.rf_rules.proofs.search.Search.+extend.Goals.{After-with-next}
@@ -21,7 +21,7 @@ loop-carrier-preserved-then-is_hopeless t c =
     (λ u. broken-no_candidate s.show.now s.ats.now s.kind _ (c.if-is_hopeless.ensures u))
 
 more : (t : ℕ) (c : After-with-next t) → take (c.args.depth + 1) (set c.args.roles c.args.depth c.loop-carrier.carrier) ≡ take c.args.depth c.args.roles ++ c.loop-carrier.carrier ∷ []
-more t c = let four : length c.args.roles ≡ 4 = omega arith in take_more_set c.args.roles c.args.depth c.loop-carrier.carrier (omega (arith, four, few-roles c.args.self.now.kind, c.requires.depth))
+more t c = let four : length c.args.roles ≡ 4 = omega arith in take_more_set c.args.roles c.args.depth c.loop-carrier.carrier (omega (arith, four, four_roles c.args.self.now.kind, c.requires.depth))
 
 pub extend-requires : goal.extend-requires
 extend-requires t c =

@@ -5,7 +5,7 @@ use Rattle.rf_terms.specs.Kinds.{roles_of}
 use Rattle.rf_rules.specs.Tuples.{upto, tuples}
 use Rattle.rf_rules.specs.Instances.{AreCarriers}
 use Rattle.rf_rules.specs.Products.{noted_in}
-use Rattle.rf_rules.proofs.FormLemmas.{few-roles}
+use Rattle.rf_terms.proofs.KindLaws.{four_roles}
 use Rattle.rf_rules.proofs.SearchLemmas.{AreCarriers-push}
 use Rattle.rf_rules.proofs.ProductLemmas.{noted-no_candidate, sources-end, sources-last, sources-more, sources-skip, sources-start}
 use Rattle.rf_rules.proofs.search.Search.+sources.Goals as goal
@@ -27,7 +27,7 @@ loop-carrier-preserved-then-is_hopeless t c =
     (λ u. noted-no_candidate s.show.now s.ats.now s.kind c.args.lo c.args.hi _ (c.if-is_hopeless.ensures u))
 
 more : (t : ℕ) (c : After-with-next t) → take (c.args.depth + 1) (set c.args.roles c.args.depth c.loop-carrier.carrier) ≡ take c.args.depth c.args.roles ++ c.loop-carrier.carrier ∷ []
-more t c = let four : length c.args.roles ≡ 4 = omega arith in take_more_set c.args.roles c.args.depth c.loop-carrier.carrier (omega (arith, four, few-roles c.args.self.now.kind, c.requires.depth))
+more t c = let four : length c.args.roles ≡ 4 = omega arith in take_more_set c.args.roles c.args.depth c.loop-carrier.carrier (omega (arith, four, four_roles c.args.self.now.kind, c.requires.depth))
 
 pub sources-requires : goal.sources-requires
 sources-requires t c =

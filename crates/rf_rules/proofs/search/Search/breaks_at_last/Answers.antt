@@ -8,7 +8,8 @@ use Rattle.rf_rules.specs.Plans.{breaks_from}
 use Rattle.rf_rules.specs.declared.lane.Lane.{Lane}
 use Rattle.rf_rules.specs.Searches.{floor_of}
 use Rattle.rf_rules.proofs.SearchLemmas.{broken-far, broken-near, AreCarriers-push}
-use Rattle.rf_rules.proofs.FormLemmas.{margin-push, few-roles, two-roles}
+use Rattle.rf_terms.proofs.KindLaws.{four_roles, two_roles}
+use Rattle.rf_rules.proofs.FormLemmas.{margin-push}
 use Rattle.rf_rules.proofs.ReadyLemmas.{ready-lane, ready-lanes}
 use Rattle.rf_rules.proofs.PlanLemmas.{any-found, any-more, any-zero, breaks-last, breaks-next}
 use Rattle.rf_rules.proofs.search.Search.breaks_at_last.Goals as goal
@@ -32,16 +33,16 @@ four c = omega arith
 
 -- the first roles, with the last role taken
 more : (c : After-max-needs) → take (c.args.depth + 1) (set c.args.roles c.args.depth c.loop-carrier.carrier) ≡ take c.args.depth c.args.roles ++ c.loop-carrier.carrier ∷ []
-more c = take_more_set c.args.roles c.args.depth c.loop-carrier.carrier (omega (arith, four c, few-roles c.args.self.now.kind, c.requires.depth))
+more c = take_more_set c.args.roles c.args.depth c.loop-carrier.carrier (omega (arith, four c, four_roles c.args.self.now.kind, c.requires.depth))
 
 long : (c : After-max-needs) → length (take c.args.depth c.args.roles) ≡ c.args.depth
-long c = length-take-le c.args.depth c.args.roles (omega (arith, four c, few-roles c.args.self.now.kind, c.requires.depth))
+long c = length-take-le c.args.depth c.args.roles (omega (arith, four c, four_roles c.args.self.now.kind, c.requires.depth))
 
 needs : (c : After-max-needs) → c.max-needs.result ≡ margin_of c.args.self.now.show.now c.args.self.now.kind (take c.args.depth c.args.roles ++ c.loop-carrier.carrier ∷ [])
 needs c =
     let s = c.args.self.now in
     let t = take c.args.depth c.args.roles in
-    let first : get_or t 0 0 ≡ get_or c.args.roles 0 0 = get_or-take c.args.depth c.args.roles 0 0 (omega (arith, two-roles s.kind, c.requires.depth)) in
+    let first : get_or t 0 0 ≡ get_or c.args.roles 0 0 = get_or-take c.args.depth c.args.roles 0 0 (omega (arith, two_roles s.kind, c.requires.depth)) in
     let last : (get_or s.lanes.now c.loop-carrier.carrier no-lane).needs ≡ asked s.show.now s.kind c.loop-carrier.carrier = ap (λ (l : Lane). l.needs) (ready-lane s c.loop-carrier.carrier no-lane c.requires.ready c.loop-carrier-test.true) in
     let floor : c.floor-floor.result ≡ floor_of s.show.now s.kind (get_or t 0 0) = rw first c.floor-floor.ensures in
     c.max-needs.ensures ∙ ap (λ k. max k (get_or s.lanes.now c.loop-carrier.carrier no-lane).needs) floor ∙ ap (λ k. max (floor_of s.show.now s.kind (get_or t 0 0)) k) last ∙ sym (margin-push s.show.now s.kind t c.loop-carrier.carrier (omega (arith, long c, c.requires.depth)))

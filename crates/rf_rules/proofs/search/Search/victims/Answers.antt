@@ -1,12 +1,14 @@
-use Rattle.std.proofs.Common.{◌≡◌, ◌++◌, ◌∷◌, [], length, take, get_or, max, pos, ap, sym, ◌∙◌, arith}
+use Rattle.std.proofs.Common.{◌≡◌, ◌<◌, ◌++◌, ◌∷◌, [], length, take, get_or, max, pos, ap, sym, ◌∙◌, arith}
 use Rattle.std.proofs.lemmas.List.{length-take-le, get_or-take}
+use Rattle.rf_terms.specs.Kinds.{roles_of}
 use Rattle.rf_show.specs.Show.{ShowData}
 use Rattle.rf_show.specs.Query.{asked, margin_of}
 use Rattle.rf_rules.specs.declared.lane.Lane.{Lane}
 use Rattle.rf_rules.specs.Searches.{floor_of}
-use Rattle.rf_rules.proofs.MaskLemmas.{all-below}
+use Rattle.rf_rules.proofs.CompanyLemmas.{all-below}
 use Rattle.rf_rules.proofs.SearchLemmas.{step-start, step-far, step-near, step-end, broken-far, found-closed}
-use Rattle.rf_rules.proofs.FormLemmas.{margin-push, few-roles, two-roles}
+use Rattle.rf_terms.proofs.KindLaws.{four_roles, two_roles}
+use Rattle.rf_rules.proofs.FormLemmas.{margin-push}
 use Rattle.rf_rules.proofs.ReadyLemmas.{ready-lane, ready-lanes}
 use Rattle.rf_rules.proofs.search.Search.victims.Goals as goal
 use Rattle.rf_rules.proofs.search.Search.victims.Goals.{After-max-needs}
@@ -24,13 +26,13 @@ four : (c : After-max-needs) → length c.args.roles ≡ 4
 four c = omega arith
 
 long : (c : After-max-needs) → length (take c.args.depth c.args.roles) ≡ c.args.depth
-long c = length-take-le c.args.depth c.args.roles (omega (arith, four c, few-roles c.args.self.now.kind, c.requires.depth))
+long c = length-take-le c.args.depth c.args.roles (omega (arith, four c, four_roles c.args.self.now.kind, c.requires.depth))
 
 needs : (c : After-max-needs) → c.max-needs.result ≡ margin_of c.args.self.now.show.now c.args.self.now.kind (take c.args.depth c.args.roles ++ c.loop-carrier.carrier ∷ [])
 needs c =
     let s = c.args.self.now in
     let t = take c.args.depth c.args.roles in
-    let first : get_or t 0 0 ≡ get_or c.args.roles 0 0 = get_or-take c.args.depth c.args.roles 0 0 (omega (arith, two-roles s.kind, c.requires.depth)) in
+    let first : get_or t 0 0 ≡ get_or c.args.roles 0 0 = get_or-take c.args.depth c.args.roles 0 0 (omega (arith, two_roles s.kind, c.requires.depth)) in
     let last : (get_or s.lanes.now c.loop-carrier.carrier no-lane).needs ≡ asked s.show.now s.kind c.loop-carrier.carrier = ap (λ (l : Lane). l.needs) (ready-lane s c.loop-carrier.carrier no-lane c.requires.ready c.loop-carrier-test.true) in
     let floor : c.floor-floor.result ≡ floor_of s.show.now s.kind (get_or t 0 0) = rw first c.floor-floor.ensures in
     c.max-needs.ensures ∙ ap (λ k. max k (get_or s.lanes.now c.loop-carrier.carrier no-lane).needs) floor ∙ ap (λ k. max (floor_of s.show.now s.kind (get_or t 0 0)) k) last ∙ sym (margin-push s.show.now s.kind t c.loop-carrier.carrier (omega (arith, long c, c.requires.depth)))
@@ -49,7 +51,11 @@ pub judge-requires-clause-opened : goal.judge-requires-clause-opened
 judge-requires-clause-opened c = sym c.is_open.ensures ∙ c.if-not-is_open.false
 
 pub judge-requires-clause-mates : goal.judge-requires-clause-mates
-judge-requires-clause-mates c = rw c.requires.same at (c.mates-mates.ensures c.loop-carrier.carrier (omega (arith, ap (λ (d : ShowData). length d.carriers) c.requires.same, c.requires.ready.carriers, c.loop-carrier-test.true)))
+judge-requires-clause-mates c =
+    let s = c.args.self.now in
+    let there : c.loop-carrier.carrier < length c.args.company.now.show.now.carriers = omega (arith, ap (λ (d : ShowData). length d.carriers) c.requires.same, c.requires.ready.carriers, c.loop-carrier-test.true) in
+    let size : length s.coefficients.now ≡ roles_of s.kind = ap length c.requires.ready.coefficients in
+    rw (c.requires.same, size) at (c.mates-mates.ensures c.loop-carrier.carrier there)
 
 pub judge-requires-clause-needs : goal.judge-requires-clause-needs
 judge-requires-clause-needs c = needs (goal.at.judge-requires-clause-needs c).After-max-needs

@@ -1,12 +1,12 @@
 use Rattle.std.proofs.Common.{◌≡◌, ◌+◌, ap, sym, ◌∙◌, length, arith}
-use Rattle.rf_zones.proofs.PairLemmas.{within_496, pairs-next}
+use Rattle.rf_zones.proofs.PairLemmas.{pairs_fit, pairs-next}
 use Rattle.rf_zones.proofs.ZonesLemmas.{IsZones-with_zone, free-with_zone}
 use Rattle.rf_zones.proofs.zones.Zones.add.Goals as goal
 
 pub grow-requires : goal.grow-requires
 grow-requires c =
     let names = ap (λ z. length z.names) c.self.view_is in
-    omega (arith, within_496 (length c.self.inside.names + 1) (omega arith), pairs-next (length c.self.inside.names), c.self.invariant.paired)
+    omega (arith, pairs_fit (length c.self.inside.names + 1) (omega arith), pairs-next (length c.self.inside.names), c.self.invariant.paired)
 
 pub invariant_of-self : goal.invariant_of-self
 invariant_of-self c =
@@ -17,4 +17,4 @@ invariant_of-self c =
 pub returns-clause-free : goal.returns-clause-free
 returns-clause-free c =
     let count : c.count-count.result ≡ length c.self.inside.names = c.count-count.ensures.value ∙ sym (ap (λ z. length z.names) c.self.view_is) in
-    rw (c.push.ensures, c.grow.ensures, count) (free-with_zone (record { names = c.self.inside.names; coupled = c.self.inside.couplings }) c.args.name)
+    rw (c.push.ensures, c.grow.ensures, count) (free-with_zone (record { names = c.self.inside.names; couplings = c.self.inside.couplings }) c.args.name)

@@ -1,0 +1,5 @@
+use Rattle.rf_zones.proofs.MaskLemmas.{has_both}
+use Rattle.rf_zones.proofs.mask.both.Goals as goal
+
+pub returns : goal.returns
+returns c = λ k. has_both c.args.a c.args.b k

@@ -1,0 +1,5 @@
+use Rattle.rf_zones.proofs.MaskLemmas.{has_either}
+use Rattle.rf_zones.proofs.mask.either.Goals as goal
+
+pub returns : goal.returns
+returns c = λ k. has_either c.args.a c.args.b k
