@@ -1,6 +1,5 @@
 pub mod CarriersMade
 pub mod CommandsBack
-pub mod CommandsSaid
 pub mod DecimalsBack
 pub mod LineLemmas
 pub mod LinesRead
@@ -11,6 +10,7 @@ pub mod PlaceLemmas
 pub mod ProfilesMade
 pub mod RunLemmas
 pub mod SeparatorsBack
+pub mod ShapesBack
 pub mod ShowLemmas
 pub mod ShowMade
 pub mod TextualLemmas

@@ -28,8 +28,9 @@ use Rattle.rf_base.specs.Lines.{joined}
 use Rattle.rf_text.specs.ShowLaw.{HotPointsOf, IsBan, IsCarrier, IsProfile, IsScan, IsShowOver, LinesMakeShow, after_command, after_lines}
 use Rattle.rf_text.specs.Shows.{at_lines, carrier_lines, couple_lines, coupling_edit, far_lines, lock_lines, pair_line, pairs_that, pairs_with, profile_lines, range_line, ranges_lines, scan_line, show_lines, stand, time_line, zone_line, zone_name, ban_line}
 use Rattle.rf_text.specs.Words.{is_word}
-use Rattle.rf_text.proofs.CommandsBack.{said_back}
-use Rattle.rf_text.proofs.CommandsSaid.{AreShort, IsFiled, IsNamed, IsSaid, IsShort}
+use Rattle.rf_text.proofs.CommandsBack.{IsBack, row_back}
+use Rattle.rf_text.specs.declared.verb.Verb.TheVariants as verb
+use Rattle.rf_text.proofs.ShapesBack.{AreShort, IsFiled, IsNamed, IsShort}
 use Rattle.rf_text.proofs.MadeLemmas.{made}
 use Rattle.rf_text.proofs.ProfilesMade.{is_worded}
 use Rattle.rf_text.proofs.ShowMade.{commands_make_show, kept_of}
@@ -41,14 +42,14 @@ line_in : (words : List (List ℕ)) (command : Command) → list_all is_word wor
 line_in [] command valid read = cc
 line_in (word ∷ words) command valid read = rw (words_back word words valid, read) refl
 
-read_back : (command : Command) → IsSaid command → command_in (command_text_of command) ≡ Some command
-read_back command h = let back = said_back command h in line_in (command_words command) command back.valid back.read
+read_back : (command : Command) → IsBack command → command_in (command_text_of command) ≡ Some command
+read_back command back = line_in (command_words command) command back.valid back.read
 
 then_same : {A B : Type 0} (o : Option A) (f g : A → Option B) → ((x : A) → f x ≡ g x) → option_and_then f o ≡ option_and_then g o
 then_same None f g h = refl
 then_same (Some x) f g h = h x
 
-lines_read : (hot : HotPointsOf) (s : ShowData) (commands : List Command) → AllByRecursion IsSaid commands → after_lines hot s (map command_text_of commands) ≡ made hot s commands
+lines_read : (hot : HotPointsOf) (s : ShowData) (commands : List Command) → AllByRecursion IsBack commands → after_lines hot s (map command_text_of commands) ≡ made hot s commands
 lines_read hot s [] h = refl
 lines_read hot s (command ∷ commands) h =
     rw (read_back command h.0) (then_same (after_command hot s command) (λ next. after_lines hot next (map command_text_of commands)) (λ next. made hot next commands)
@@ -110,23 +111,23 @@ lt_of a b h = grind (arith, nat_tests)
 zone_named : (zones : ZonesData) (z : ℕ) → AllByRecursion IsName zones.names → z < length zones.names → IsNamed (zone_name zones z)
 zone_named zones z h inside = named _ (all_at IsName zones.names z [] h inside)
 
-pair_said : (c : Coupling) (a b : List ℕ) → IsNamed a → IsNamed b → IsSaid (Change (coupling_edit c a b))
-pair_said Apart a b h k = (h, k)
-pair_said Coupled a b h k = (h, k)
-pair_said Far a b h k = (h, k)
+pair_said : (c : Coupling) (a b : List ℕ) → IsNamed a → IsNamed b → IsBack (Change (coupling_edit c a b))
+pair_said Apart a b h k = row_back verb.Uncouple (a, b) (h, k)
+pair_said Coupled a b h k = row_back verb.Couple (a, b) (h, k)
+pair_said Far a b h k = row_back verb.Far (a, b) (h, k)
 
-pairs_with_said : (c : Coupling) (zones : ZonesData) → AllByRecursion IsName zones.names → (a : ℕ) → a < length zones.names → AllByRecursion IsSaid (pairs_with c zones a)
+pairs_with_said : (c : Coupling) (zones : ZonesData) → AllByRecursion IsName zones.names → (a : ℕ) → a < length zones.names → AllByRecursion IsBack (pairs_with c zones a)
 pairs_with_said c zones names a inside =
-    all_map (λ b. b < length zones.names) IsSaid (pair_line c zones a) (filter (stand c zones a) (range_with_len (a + 1) (length zones.names - (a + 1))))
+    all_map (λ b. b < length zones.names) IsBack (pair_line c zones a) (filter (stand c zones a) (range_with_len (a + 1) (length zones.names - (a + 1))))
     (all_filter (λ b. b < length zones.names) (stand c zones a) _ (all_range (a + 1) (length zones.names - (a + 1)) (length zones.names) (omega arith)))
     (λ b h. pair_said c _ _ (zone_named zones a names inside) (zone_named zones b names h))
 
-zones_said : (zones : ZonesData) → AllByRecursion IsName zones.names → AllByRecursion IsSaid (map zone_line (drop 1 zones.names))
-zones_said zones names = all_map IsName IsSaid zone_line (drop 1 zones.names) (all_drop IsName 1 zones.names names) named
+zones_said : (zones : ZonesData) → AllByRecursion IsName zones.names → AllByRecursion IsBack (map zone_line (drop 1 zones.names))
+zones_said zones names = all_map IsName IsBack zone_line (drop 1 zones.names) (all_drop IsName 1 zones.names names) (λ name n. row_back verb.Zone name (named name n))
 
-pairs_said : (c : Coupling) (zones : ZonesData) → AllByRecursion IsName zones.names → AllByRecursion IsSaid (pairs_that c zones)
+pairs_said : (c : Coupling) (zones : ZonesData) → AllByRecursion IsName zones.names → AllByRecursion IsBack (pairs_that c zones)
 pairs_said c zones names =
-    all_flat (λ a. a < length zones.names) IsSaid (pairs_with c zones) (range_with_len 0 (length zones.names)) (all_range 0 (length zones.names) (length zones.names) (omega arith))
+    all_flat (λ a. a < length zones.names) IsBack (pairs_with c zones) (range_with_len 0 (length zones.names)) (all_range 0 (length zones.names) (length zones.names) (omega arith))
     (pairs_with_said c zones names)
 
 widths_short : (ns : List ℕ) → list_all is_width ns ≡ true → AreShort ns
@@ -137,70 +138,71 @@ rises_all : (last : ℕ) (ranges : List Span) → RisesFrom last ranges → AllB
 rises_all last [] h = tt
 rises_all last (r ∷ ranges) h = (h.0, rises_all r.to ranges h.2)
 
-ranges_said : (p : Profile) (ranges : List Span) → IsName p.name → is_worded p ≡ true → AllByRecursion IsRange ranges → AllByRecursion IsSaid (ranges_lines p ranges)
+ranges_said : (p : Profile) (ranges : List Span) → IsName p.name → is_worded p ≡ true → AllByRecursion IsRange ranges → AllByRecursion IsBack (ranges_lines p ranges)
 ranges_said p [] name worded h = tt
 ranges_said p (r ∷ ranges) name worded h = (
-  (named p.name name, (refl, (short r.from h.0.low, (short r.to h.0.high, (short r.step h.0.stride, widths_short (widths p) worded))))),
-  all_map IsRange IsSaid (range_line p.name) ranges h.1 (λ q v. (named p.name name, (short q.from v.low, short q.to v.high, short q.step v.stride))),
+  row_back verb.Profile (p.name, r.from ∷ r.to ∷ r.step ∷ widths p) (named p.name name, (refl, (short r.from h.0.low, (short r.to h.0.high, (short r.step h.0.stride, widths_short (widths p) worded))))),
+  all_map IsRange IsBack (range_line p.name) ranges h.1 (λ q v. row_back verb.Range (p.name, (q.from, (q.to, q.step))) (named p.name name, (short q.from v.low, (short q.to v.high, short q.step v.stride)))),
 )
 
-profiles_said : (profiles : List Profile) → list_all is_worded profiles ≡ true → AllByRecursion IsProfile profiles → AllByRecursion IsSaid (flat_map profile_lines profiles)
+profiles_said : (profiles : List Profile) → list_all is_worded profiles ≡ true → AllByRecursion IsProfile profiles → AllByRecursion IsBack (flat_map profile_lines profiles)
 profiles_said [] worded h = tt
 profiles_said (p ∷ profiles) worded h =
     let n = and_parts (is_worded p) (list_all is_worded profiles) worded in
-    all_both IsSaid (profile_lines p) (flat_map profile_lines profiles) (ranges_said p p.channels h.0.0 n.0 (rises_all 0 p.channels h.0.1.rising)) (profiles_said profiles n.1 h.1)
+    all_both IsBack (profile_lines p) (flat_map profile_lines profiles) (ranges_said p p.channels h.0.0 n.0 (rises_all 0 p.channels h.0.1.rising)) (profiles_said profiles n.1 h.1)
 
 if_named : (zone : Option (List ℕ)) → IfSome zone IsName → IfSome zone IsNamed
 if_named None h = tt
 if_named (Some zone) h = named zone h
 
-scan_said : (zones : ZonesData) (hot : HotPointsOf) (scan : ScanSet) → is_scan zones scan ≡ true → IsScan hot scan → IsSaid (scan_line scan)
+scan_said : (zones : ZonesData) (hot : HotPointsOf) (scan : ScanSet) → is_scan zones scan ≡ true → IsScan hot scan → IsBack (scan_line scan)
 scan_said zones hot scan valid h =
     let p = and_parts (has_zone zones scan.zone && is_threshold scan.threshold) (nat_le scan.width widest_scan) valid in
     let q = and_parts (has_zone zones scan.zone) (is_threshold scan.threshold) p.0 in
-    (filed scan.file h.file, (named scan.zone h.zone, (omega (arith, le_of _ _ q.1), omega (arith, le_of scan.width widest_scan p.1), tt)))
+    row_back verb.Scan (scan.file, (scan.zone, (scan.threshold, (scan.width, scan.sep))))
+    (filed scan.file h.file, (named scan.zone h.zone, (omega (arith, le_of _ _ q.1), (omega (arith, le_of scan.width widest_scan p.1), tt))))
 
-scans_said : (zones : ZonesData) (hot : HotPointsOf) (scans : List ScanSet) → list_all (is_scan zones) scans ≡ true → AllByRecursion (IsScan hot) scans → AllByRecursion IsSaid (map scan_line scans)
+scans_said : (zones : ZonesData) (hot : HotPointsOf) (scans : List ScanSet) → list_all (is_scan zones) scans ≡ true → AllByRecursion (IsScan hot) scans → AllByRecursion IsBack (map scan_line scans)
 scans_said zones hot [] valid h = tt
 scans_said zones hot (scan ∷ scans) valid h =
     let p = and_parts (is_scan zones scan) (list_all (is_scan zones) scans) valid in
     (scan_said zones hot scan p.0 h.0, scans_said zones hot scans p.1 h.1)
 
-times_said : (name : List ℕ) (times : List (ℕ × ℕ)) → IsNamed name → list_all is_interval times ≡ true → AllByRecursion IsSaid (map (time_line name) times)
+times_said : (name : List ℕ) (times : List (ℕ × ℕ)) → IsNamed name → list_all is_interval times ≡ true → AllByRecursion IsBack (map (time_line name) times)
 times_said name [] n h = tt
 times_said name (t ∷ times) n h =
     let p = and_parts (is_interval t) (list_all is_interval times) h in
     let q = and_parts (nat_lt t.0 t.1) (nat_le t.1 10080) p.0 in
     let low = lt_of t.0 t.1 q.0 in
     let high = le_of t.1 10080 q.1 in
-    ((n, omega (arith, low, high), omega (arith, high)), times_said name times n p.1)
+    (row_back verb.Time (name, (t.0, t.1)) (n, (omega (arith, low, high), omega (arith, high))), times_said name times n p.1)
 
-at_said : (name : List ℕ) (at : Option ℕ) → IsNamed name → IfSome at IsKhz → AllByRecursion IsSaid (at_lines name at)
+at_said : (name : List ℕ) (at : Option ℕ) → IsNamed name → IfSome at IsKhz → AllByRecursion IsBack (at_lines name at)
 at_said name None n h = tt
-at_said name (Some khz) n h = ((n, short khz h), tt)
+at_said name (Some khz) n h = (row_back verb.Set (name, khz) (n, short khz h), tt)
 
-lock_said : (name : List ℕ) (locked : Bool) → IsNamed name → AllByRecursion IsSaid (lock_lines name locked)
-lock_said name true n = (n, tt)
+lock_said : (name : List ℕ) (locked : Bool) → IsNamed name → AllByRecursion IsBack (lock_lines name locked)
+lock_said name true n = (row_back verb.Lock name n, tt)
 lock_said name false n = tt
 
-carrier_said : (c : Carrier) → IsCarrier c → AllByRecursion IsSaid (carrier_lines c)
+carrier_said : (c : Carrier) → IsCarrier c → AllByRecursion IsBack (carrier_lines c)
 carrier_said c h =
     let n = named c.name h.name in (
-      (n, named c.profile h.profile, named c.zone h.zone),
-      all_both IsSaid (map (time_line c.name) c.times) (at_lines c.name c.at ++ lock_lines c.name c.locked) (times_said c.name c.times n h.times.valid)
-          (all_both IsSaid (at_lines c.name c.at) (lock_lines c.name c.locked) (at_said c.name c.at n h.at) (lock_said c.name c.locked n)),
+      row_back verb.Carrier (c.name, (c.profile, c.zone)) (n, (named c.profile h.profile, named c.zone h.zone)),
+      all_both IsBack (map (time_line c.name) c.times) (at_lines c.name c.at ++ lock_lines c.name c.locked) (times_said c.name c.times n h.times.valid)
+          (all_both IsBack (at_lines c.name c.at) (lock_lines c.name c.locked) (at_said c.name c.at n h.at) (lock_said c.name c.locked n)),
     )
 
-show_said : (hot : HotPointsOf) (show : ShowData) → IsShowOver hot show → AllByRecursion IsSaid (show_lines show)
+show_said : (hot : HotPointsOf) (show : ShowData) → IsShowOver hot show → AllByRecursion IsBack (show_lines show)
 show_said hot show w =
     let k = kept_of show w.kept in
-    all_both IsSaid (map zone_line (drop 1 show.zones.names)) _ (zones_said show.zones w.zone_names)
-    (all_both IsSaid (couple_lines show.zones) _ (pairs_said Coupled show.zones w.zone_names)
-    (all_both IsSaid (far_lines show.zones) _ (pairs_said Far show.zones w.zone_names)
-    (all_both IsSaid (flat_map profile_lines show.profiles) _ (profiles_said show.profiles w.textual w.profiles)
-    (all_both IsSaid (map ban_line show.bans) _ (all_map IsBan IsSaid ban_line show.bans w.bans (λ b h. (short b.lo h.low, (short b.hi h.high, if_named b.zone h.zone))))
-    (all_both IsSaid (map scan_line show.scans) (flat_map carrier_lines show.carriers) (scans_said show.zones hot show.scans k.scans w.scans)
-    (all_flat IsCarrier IsSaid carrier_lines show.carriers w.carriers carrier_said))))))
+    all_both IsBack (map zone_line (drop 1 show.zones.names)) _ (zones_said show.zones w.zone_names)
+    (all_both IsBack (couple_lines show.zones) _ (pairs_said Coupled show.zones w.zone_names)
+    (all_both IsBack (far_lines show.zones) _ (pairs_said Far show.zones w.zone_names)
+    (all_both IsBack (flat_map profile_lines show.profiles) _ (profiles_said show.profiles w.textual w.profiles)
+    (all_both IsBack (map ban_line show.bans) _ (all_map IsBan IsBack ban_line show.bans w.bans (λ b h. row_back verb.Ban (b.lo, (b.hi, b.zone)) (short b.lo h.low, (short b.hi h.high, if_named b.zone h.zone))))
+    (all_both IsBack (map scan_line show.scans) (flat_map carrier_lines show.carriers) (scans_said show.zones hot show.scans k.scans w.scans)
+    (all_flat IsCarrier IsBack carrier_lines show.carriers w.carriers carrier_said))))))
 
 pub lines_make : LinesMakeShow
 lines_make hot show w = lines_read hot first_show (show_lines show) (show_said hot show w) ∙ commands_make_show hot show w

@@ -7,10 +7,14 @@ use Rattle.rf_base.specs.Lines.{joined}
 use Rattle.rf_text.specs.Operands.{fewest_numbers}
 use Rattle.rf_text.specs.Verbs.{text_of}
 
+-- the word of a value, where there is one
+abbrev pub if_there : {A : Type 0} → (A → List ℕ) → Option A → List (List ℕ)
+if_there word None = []
+if_there word (Some value) = word value ∷ []
+
 -- the word of a zone, where one is named
 abbrev pub zone_words : Option (List ℕ) → List (List ℕ)
-zone_words None = []
-zone_words (Some zone) = zone ∷ []
+zone_words zone = if_there (λ name. name) zone
 
 -- the words of a profile's numbers: the last is left out where it is 0
 abbrev pub number_words : List ℕ → List (List ℕ)

@@ -2,10 +2,10 @@ pub mod CommandTexts
 pub mod Commands
 pub mod Decimals
 pub mod EditTexts
-pub mod Edits
 pub mod Free
 pub mod Operands
 pub mod Separators
+pub mod Shapes
 pub mod ShowLaw
 pub mod Shows
 pub mod Verbs

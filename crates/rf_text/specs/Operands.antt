@@ -15,14 +15,19 @@ first reads others (word ∷ words) = do
   more ← others words
   Some (operand, more)
 
+-- no operand
+abbrev pub none : List (List ℕ) → Option (Unit {0})
+none [] = Some tt
+none (word ∷ words) = None
+
 abbrev pub one : {A : Type 0} → (List ℕ → Option A) → List (List ℕ) → Option A
 one reads words = only words >>= reads
 
 abbrev pub two : {A B : Type 0} → (List ℕ → Option A) → (List ℕ → Option B) → List (List ℕ) → Option (A × B)
 two reads last words = first reads (one last) words
 
-abbrev pub three : {A B C : Type 0} → (List ℕ → Option A) → (List ℕ → Option B) → (List ℕ → Option C) → List (List ℕ) → Option (A × B × C)
-three reads next last words = option_map (λ w. (w.0, w.1.0, w.1.1)) (first reads (two next last) words)
+abbrev pub three : {A B C : Type 0} → (List ℕ → Option A) → (List ℕ → Option B) → (List ℕ → Option C) → List (List ℕ) → Option (A × (B × C))
+three reads next last words = first reads (two next last) words
 
 -- one operand, or none
 abbrev pub at_most_one : {A : Type 0} → (List ℕ → Option A) → List (List ℕ) → Option (Option A)

@@ -1,8 +1,10 @@
 ghost use Rattle.std.specs.Prelude.{◌≡◌, IfOk};
 ghost use Rattle.rf_text.specs.Commands as spec;
+ghost use Rattle.rf_text.specs.Shapes.{command_read};
+ghost use Rattle.rf_text.specs.declared.verb.Verb.TheVariants as verb;
 
 use crate::edit::edit_by;
-use crate::operand::{one, three, two};
+use crate::operand::{none, one, three, two};
 use crate::verb::Verb;
 use crate::words::Words;
 use rf_base::{Decimal, FileName, Name};
@@ -82,45 +84,28 @@ fn command_in(line: &[u8]) -> Option<Command>
     command_by(verb, words)
 }
 
-#[tactic(auto, unfolding(crate::specs::Commands::command_by))]
 fn command_by(verb: Verb, operands: Words<'_>) -> Option<Command>
-    ensures { result ≡ spec.command_by verb operands.entry }
+    ensures { result ≡ command_read (spec.row_of verb) operands.entry }
 {
     match verb {
-        Verb::Profiles => {
-            let file = one(operands)?;
-            Some(Command::Profiles { file })
-        }
+        Verb::Profiles => one(operands).map(|file| Command::Profiles { file }),
         Verb::Scan => scan_by(operands),
-        Verb::Undo => operands.is_empty().then_some(Command::Undo),
-        Verb::Redo => operands.is_empty().then_some(Command::Redo),
-        Verb::Report => operands.is_empty().then_some(Command::Report),
-        Verb::Csv => operands.is_empty().then_some(Command::Csv),
-        Verb::Show => operands.is_empty().then_some(Command::Show),
-        Verb::Free => {
-            let name = one(operands)?;
-            Some(Command::Free { name })
-        }
-        Verb::Products => {
-            let (lo, hi) = two(operands)?;
-            Some(Command::Products { lo, hi })
-        }
-        Verb::Solve => {
-            let budget = one(operands)?;
-            Some(Command::Solve { budget })
-        }
-        Verb::Place => {
-            let budget = one(operands)?;
-            Some(Command::Place { budget })
-        }
-        Verb::Quit => operands.is_empty().then_some(Command::Quit),
-        _ => Some(Command::Change(edit_by(verb, operands)?)),
+        Verb::Undo => none(operands).map(|()| Command::Undo),
+        Verb::Redo => none(operands).map(|()| Command::Redo),
+        Verb::Report => none(operands).map(|()| Command::Report),
+        Verb::Csv => none(operands).map(|()| Command::Csv),
+        Verb::Show => none(operands).map(|()| Command::Show),
+        Verb::Free => one(operands).map(|name| Command::Free { name }),
+        Verb::Products => two(operands).map(|(lo, hi)| Command::Products { lo, hi }),
+        Verb::Solve => one(operands).map(|budget| Command::Solve { budget }),
+        Verb::Place => one(operands).map(|budget| Command::Place { budget }),
+        Verb::Quit => none(operands).map(|()| Command::Quit),
+        _ => edit_by(verb, operands).map(Command::Change),
     }
 }
 
-// The scan that operands write.
 fn scan_by(mut operands: Words<'_>) -> Option<Command>
-    ensures { result ≡ spec.scan_by operands.entry }
+    ensures { result ≡ command_read (spec.row_of verb.Scan) operands.entry }
 {
     let file = FileName::read(operands.next()?)?;
     let zone = Name::read(operands.next()?)?;

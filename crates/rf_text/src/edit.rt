@@ -1,5 +1,7 @@
 ghost use Rattle.std.specs.Prelude.{◌≡◌};
-ghost use Rattle.rf_text.specs.Edits as spec;
+ghost use Rattle.rf_text.specs.Commands as spec;
+ghost use Rattle.rf_text.specs.Shapes.{edit_read};
+ghost use Rattle.rf_text.specs.declared.verb.Verb.TheVariants as verb;
 
 use crate::operand::{Operand, at_most_one, one, profile_numbers, three, two};
 use crate::verb::Verb;
@@ -8,107 +10,69 @@ use rf_base::Name;
 use rf_show::Edit;
 
 /// The edit that a first word and the operands after it write.
-#[tactic(auto, unfolding(crate::specs::Edits::edit_by))]
-pub(crate) fn edit_by(verb: Verb, mut operands: Words<'_>) -> Option<Edit>
-    ensures { result ≡ spec.edit_by verb operands.entry }
+pub(crate) fn edit_by(verb: Verb, operands: Words<'_>) -> Option<Edit>
+    ensures { result ≡ edit_read (spec.row_of verb) operands.entry }
 {
     match verb {
-        Verb::Carrier => {
-            let (name, profile, zone) = three(operands)?;
-            Some(Edit::AddCarrier {
-                name,
-                profile,
-                zone,
-            })
-        }
-        Verb::Remove => Some(Edit::Remove {
-            name: one(operands)?,
-        }),
-        Verb::Time => {
-            let (name, from, to) = three(operands)?;
-            Some(Edit::AddTime { name, from, to })
-        }
-        Verb::Always => Some(Edit::Always {
-            name: one(operands)?,
-        }),
-        Verb::Set => {
-            let (name, khz) = two(operands)?;
-            Some(Edit::SetAt { name, khz })
-        }
-        Verb::Clear => Some(Edit::Clear {
-            name: one(operands)?,
-        }),
-        Verb::Lock => Some(Edit::Lock {
-            name: one(operands)?,
-        }),
-        Verb::Unlock => Some(Edit::Unlock {
-            name: one(operands)?,
-        }),
-        _ => setup_by(verb, operands),
-    }
-}
-
-// An edit of what the carriers stand on.
-#[tactic(auto, unfolding(crate::specs::Edits::setup_by))]
-fn setup_by(verb: Verb, mut operands: Words<'_>) -> Option<Edit>
-    ensures { result ≡ spec.setup_by verb operands.entry }
-{
-    match verb {
-        Verb::Profile => {
-            let name = Name::read(operands.next()?)?;
-            let numbers = profile_numbers(operands)?;
-            Some(Edit::AddProfile { name, numbers })
-        }
-        Verb::Range => {
-            let name = Name::read(operands.next()?)?;
-            let (from, to, step) = three(operands)?;
-            Some(Edit::AddRange {
-                name,
-                from,
-                to,
-                step,
-            })
-        }
-        Verb::DropProfile => Some(Edit::DropProfile {
-            name: one(operands)?,
-        }),
-        Verb::Zone => Some(Edit::AddZone {
-            name: one(operands)?,
-        }),
-        Verb::Couple => {
-            let (a, b) = two(operands)?;
-            Some(Edit::Couple { a, b })
-        }
-        Verb::Uncouple => {
-            let (a, b) = two(operands)?;
-            Some(Edit::Uncouple { a, b })
-        }
-        Verb::Far => {
-            let (a, b) = two(operands)?;
-            Some(Edit::Far { a, b })
-        }
-        _ => exclusion_by(verb, operands),
-    }
-}
-
-// An edit of what is excluded.
-#[tactic(auto, unfolding(crate::specs::Edits::exclusion_by))]
-fn exclusion_by(verb: Verb, mut operands: Words<'_>) -> Option<Edit>
-    ensures { result ≡ spec.exclusion_by verb operands.entry }
-{
-    match verb {
-        Verb::Ban => {
-            let lo = u32::read(operands.next()?)?;
-            let hi = u32::read(operands.next()?)?;
-            let zone = at_most_one(operands)?;
-            Some(Edit::AddBan { lo, hi, zone })
-        }
-        Verb::Unban => Some(Edit::Unban {
-            number: one(operands)?,
-        }),
-        Verb::Unscan => Some(Edit::Unscan {
-            number: one(operands)?,
-        }),
+        Verb::Profile => profile_by(operands),
+        Verb::Range => range_by(operands),
+        Verb::DropProfile => one(operands).map(|name| Edit::DropProfile { name }),
+        Verb::Zone => one(operands).map(|name| Edit::AddZone { name }),
+        Verb::Couple => two(operands).map(|(a, b)| Edit::Couple { a, b }),
+        Verb::Uncouple => two(operands).map(|(a, b)| Edit::Uncouple { a, b }),
+        Verb::Far => two(operands).map(|(a, b)| Edit::Far { a, b }),
+        Verb::Carrier => carrier_by(operands),
+        Verb::Remove => one(operands).map(|name| Edit::Remove { name }),
+        Verb::Time => three(operands).map(|(name, from, to)| Edit::AddTime { name, from, to }),
+        Verb::Always => one(operands).map(|name| Edit::Always { name }),
+        Verb::Set => two(operands).map(|(name, khz)| Edit::SetAt { name, khz }),
+        Verb::Clear => one(operands).map(|name| Edit::Clear { name }),
+        Verb::Lock => one(operands).map(|name| Edit::Lock { name }),
+        Verb::Unlock => one(operands).map(|name| Edit::Unlock { name }),
+        Verb::Ban => ban_by(operands),
+        Verb::Unban => one(operands).map(|number| Edit::Unban { number }),
+        Verb::Unscan => one(operands).map(|number| Edit::Unscan { number }),
         _ => None,
     }
+}
+
+fn profile_by(mut operands: Words<'_>) -> Option<Edit>
+    ensures { result ≡ edit_read (spec.row_of verb.Profile) operands.entry }
+{
+    let name = Name::read(operands.next()?)?;
+    let numbers = profile_numbers(operands)?;
+    Some(Edit::AddProfile { name, numbers })
+}
+
+fn range_by(mut operands: Words<'_>) -> Option<Edit>
+    ensures { result ≡ edit_read (spec.row_of verb.Range) operands.entry }
+{
+    let name = Name::read(operands.next()?)?;
+    let (from, to, step) = three(operands)?;
+    Some(Edit::AddRange {
+        name,
+        from,
+        to,
+        step,
+    })
+}
+
+fn carrier_by(operands: Words<'_>) -> Option<Edit>
+    ensures { result ≡ edit_read (spec.row_of verb.Carrier) operands.entry }
+{
+    let (name, profile, zone) = three(operands)?;
+    Some(Edit::AddCarrier {
+        name,
+        profile,
+        zone,
+    })
+}
+
+fn ban_by(mut operands: Words<'_>) -> Option<Edit>
+    ensures { result ≡ edit_read (spec.row_of verb.Ban) operands.entry }
+{
+    let lo = u32::read(operands.next()?)?;
+    let hi = u32::read(operands.next()?)?;
+    let zone = at_most_one(operands)?;
+    Some(Edit::AddBan { lo, hi, zone })
 }

@@ -30,25 +30,15 @@ pub(crate) fn write_edit(text: &mut String, edit: &Edit) -> Result<(), NoMemory>
         }
         Edit::DropProfile { name } => write_named(text, Verb::DropProfile, name),
         Edit::AddZone { name } => write_named(text, Verb::Zone, name),
-        Edit::Couple { a, b } => {
-            write_named(text, Verb::Couple, a)?;
-            write_name(text, b)
-        }
-        Edit::Uncouple { a, b } => {
-            write_named(text, Verb::Uncouple, a)?;
-            write_name(text, b)
-        }
-        Edit::Far { a, b } => {
-            write_named(text, Verb::Far, a)?;
-            write_name(text, b)
-        }
+        Edit::Couple { a, b } => write_pair(text, Verb::Couple, a, b),
+        Edit::Uncouple { a, b } => write_pair(text, Verb::Uncouple, a, b),
+        Edit::Far { a, b } => write_pair(text, Verb::Far, a, b),
         Edit::AddCarrier {
             name,
             profile,
             zone,
         } => {
-            write_named(text, Verb::Carrier, name)?;
-            write_name(text, profile)?;
+            write_pair(text, Verb::Carrier, name, profile)?;
             write_name(text, zone)
         }
         Edit::Remove { name } => write_named(text, Verb::Remove, name),
@@ -91,6 +81,14 @@ pub(crate) fn write_named(text: &mut String, verb: Verb, name: &Name) -> Result<
     let name = name.text();
     write!(text, "{verb} {name}")?;
     Ok(())
+}
+
+// Writes a verb and two names.
+fn write_pair(text: &mut String, verb: Verb, first: &Name, second: &Name) -> Result<(), NoMemory>
+    ensures { OnOk result (string_bytes text.new ≡ string_bytes text.old ++ joined (text_of verb ∷ first.now ∷ second.now ∷ [])) }
+{
+    write_named(text, verb, first)?;
+    write_name(text, second)
 }
 
 /// Writes a verb and numbers.

@@ -1,4 +1,4 @@
-ghost use Rattle.std.specs.Prelude.{◌≡◌, ℕ, List};
+ghost use Rattle.std.specs.Prelude.{◌≡◌, ℕ, List, option_map};
 ghost use Rattle.std.specs.declared.option.Option.{Option};
 ghost use Rattle.rf_base.specs.Name.{name_of};
 ghost use Rattle.rf_base.specs.Decimal.{number_of};
@@ -66,6 +66,13 @@ impl Operand for Sep {
     }
 }
 
+/// No operand.
+pub(crate) fn none(words: Words<'_>) -> Option<()>
+    ensures { result ≡ spec.none words.entry }
+{
+    words.is_empty().then_some(())
+}
+
 /// One operand.
 pub(crate) fn one<A: Operand>(words: Words<'_>) -> Option<A>
     ensures { result ≡ spec.one A.reads words.entry }
@@ -97,7 +104,7 @@ pub(crate) fn two<A: Operand, B: Operand>(mut words: Words<'_>) -> Option<(A, B)
 
 /// Three operands.
 pub(crate) fn three<A: Operand, B: Operand, C: Operand>(mut words: Words<'_>) -> Option<(A, B, C)>
-    ensures { result ≡ spec.three A.reads B.reads C.reads words.entry }
+    ensures { option_map (λ w. (w.0, (w.1, w.2))) result ≡ spec.three A.reads B.reads C.reads words.entry }
 {
     let first = A::read(words.next()?)?;
     let (second, third) = two(words)?;

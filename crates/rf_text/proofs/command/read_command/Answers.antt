@@ -1,4 +1,4 @@
-use Rattle.rf_text.proofs.CommandsSaid.{line_askable}
+use Rattle.rf_text.proofs.CommandsBack.{line_askable}
 use Rattle.rf_text.proofs.command.read_command.Goals as goal
 
 pub returns-in-Some-clause-edit : goal.returns-in-Some-clause-edit
