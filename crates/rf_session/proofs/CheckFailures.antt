@@ -27,16 +27,15 @@ use Rattle.rf_text.specs.declared.command.Command.{Command}
 use Rattle.rf_text.specs.declared.command.Command.TheVariants as command
 use Rattle.rf_text.specs.declared.command.UnknownLine.{UnknownLine}
 use Rattle.rf_session.specs.declared.check.CheckFault.TheVariants.{Shelf as NotFetched}
-use Rattle.rf_session.specs.declared.show_file.LineFault.{LineFault}
 use Rattle.rf_session.specs.declared.show_file.LineFault.TheVariants.{Shelf}
 use Rattle.rf_session.specs.declared.show_file.ShowFault.{ShowFault}
 use Rattle.rf_session.specs.declared.show_file.ShowFault.TheVariants as show
-use Rattle.rf_session.specs.Checked.{finding_of, Finds, FindsAfter, FindsFrom, FindsInLog, Found, NotFound}
+use Rattle.rf_session.specs.Checked.{Finds, FindsAfter, FindsFrom, FindsInLog, Found, Judging, NotFound, finding_of}
 use Rattle.rf_session.specs.Fetches.{Fetched, of_file, Got, found, too_large, fault, Outside, asks_for, fails_at, fetch_of}
 use Rattle.rf_session.specs.Files.{hot_or, profiles_or}
 use Rattle.rf_session.specs.Run.{is_passed}
-use Rattle.rf_session.specs.ShowFile.{command_read, made, made_by, said_file, said_read, ReadsLine, ReadsShow}
-use Rattle.rf_session.specs.Shows.{file_of, profiles_edit, scan_edit}
+use Rattle.rf_session.specs.ShowFile.{command_read, made, made_by, said_read, ReadsLine, ReadsShow}
+use Rattle.rf_session.specs.Shows.{file_of, profiles_edit, said_file, scan_edit}
 use Rattle.rf_session.proofs.FetchLaws.{count_by-append}
 
 made_fetched : (r : Result ShowData Refusal) → made r ≡ Err Shelf → ⊥
@@ -93,37 +92,37 @@ record FailsLast (fetches : List Fetched) : Type 0 where
   pub name : List ℕ
   pub whole : fetches ≡ earlier ++ of_file name fault ∷ []
 
-log_fetched : (s : ShowData) (r : Result LogData ℕ) → ◌≡◌ {A = Result _ _} (Err NotFetched) (finding_of s r) → ⊥
-log_fetched s (Ok log) is = cc
-log_fetched s (Err line) is = cc
+log_fetched : (judge : Judging) (s : ShowData) (r : Result LogData ℕ) → ◌≡◌ {A = Result _ _} (Err NotFetched) (finding_of judge s r) → ⊥
+log_fetched judge s (Ok log) is = cc
+log_fetched judge s (Err line) is = cc
 
-log_fails : (s : ShowData) (log : List ℕ) (last : List Fetched) → FindsInLog s log last (Err NotFetched) → FailsLast last
-log_fails s log last (found bytes, asked, is) = absurd (log_fetched s (log_of bytes) is)
-log_fails s log last (too_large, asked, is) = cc
-log_fails s log last (fault, asked, is) = record { earlier = []; name = log; whole = asked }
+log_fails : (judge : Judging) (s : ShowData) (log : List ℕ) (last : List Fetched) → FindsInLog judge s log last (Err NotFetched) → FailsLast last
+log_fails judge s log last (found bytes, asked, is) = absurd (log_fetched judge s (log_of bytes) is)
+log_fails judge s log last (too_large, asked, is) = cc
+log_fails judge s log last (fault, asked, is) = record { earlier = []; name = log; whole = asked }
 
-lines_fail : (lines : List Line) (fetches : List Fetched) (read : Result ShowData ShowFault) (log : List ℕ) (last : List Fetched) →
-    ReadsShow lines fetches read → FindsAfter read log last (Err NotFetched) → FailsLast fetches ⊎ FailsLast last
-lines_fail lines fetches (Ok s) log last reads finds = inr (log_fails s log last finds)
-lines_fail lines fetches (Err (show.Line number code)) log last reads (none, is) = cc
-lines_fail lines fetches (Err show.Shelf) log last (number, stops) finds =
+lines_fail : (judge : Judging) (lines : List Line) (fetches : List Fetched) (read : Result ShowData ShowFault) (log : List ℕ) (last : List Fetched) →
+    ReadsShow lines fetches read → FindsAfter judge read log last (Err NotFetched) → FailsLast fetches ⊎ FailsLast last
+lines_fail judge lines fetches (Ok s) log last reads finds = inr (log_fails judge s log last finds)
+lines_fail judge lines fetches (Err (show.Line number code)) log last reads (none, is) = cc
+lines_fail judge lines fetches (Err show.Shelf) log last (number, stops) finds =
     let (name, is) = line_fails stops.show stops.line stops.fetched stops.stops in
     inl record { earlier = stops.earlier; name = name; whole = stops.whole ∙ ap (λ f. stops.earlier ++ f ∷ []) is }
-lines_fail lines fetches (Err show.Memory) log last reads finds = absurd reads
+lines_fail judge lines fetches (Err show.Memory) log last reads finds = absurd reads
 
 -- the same after a fetch of the show's file
 fails_later : (fetched : Fetched) (fetches last : List Fetched) → FailsLast fetches ⊎ FailsLast last → FailsLast (fetched ∷ fetches) ⊎ FailsLast last
 fails_later fetched fetches last (inl fails) = inl record { earlier = fetched ∷ fails.earlier; name = fails.name; whole = ap (λ fs. fetched ∷ fs) fails.whole }
 fails_later fetched fetches last (inr fails) = inr fails
 
-finds_from : (got : Got) (name log : List ℕ) (lines last : List Fetched) → FindsFrom got log lines last (Err NotFetched) →
+finds_from : (judge : Judging) (got : Got) (name log : List ℕ) (lines last : List Fetched) → FindsFrom judge got log lines last (Err NotFetched) →
     FailsLast (of_file name got ∷ lines) ⊎ FailsLast last
-finds_from (found bytes) name log lines last (read, reads, finds) = fails_later (of_file name (found bytes)) lines last (lines_fail _ lines read log last reads finds)
-finds_from too_large name log lines last (none, nothing, is) = cc
-finds_from fault name log lines last (none, nothing, is) = inl record { earlier = []; name = name; whole = rw none refl }
+finds_from judge (found bytes) name log lines last (read, reads, finds) = fails_later (of_file name (found bytes)) lines last (lines_fail judge _ lines read log last reads finds)
+finds_from judge too_large name log lines last (none, nothing, is) = cc
+finds_from judge fault name log lines last (none, nothing, is) = inl record { earlier = []; name = name; whole = rw none refl }
 
-finds_fails : (name log : List ℕ) (first last : List Fetched) → Finds name log first last (Err NotFetched) → FailsLast first ⊎ FailsLast last
-finds_fails name log first last (got, lines, is, finds) = rw is (finds_from got name log lines last finds)
+finds_fails : (judge : Judging) (name log : List ℕ) (first last : List Fetched) → Finds judge name log first last (Err NotFetched) → FailsLast first ⊎ FailsLast last
+finds_fails judge name log first last (got, lines, is, finds) = rw is (finds_from judge got name log lines last finds)
 
 self_eq : (name : List ℕ) → bytes_eq name name ≡ true
 self_eq name = (bytes_eq-Decides name name).1 refl
@@ -151,9 +150,9 @@ rose_first before mid after n k some first second = omega arith
 rose_last : (before mid after n k : ℕ) → 1 ≤ k → min (before + n) (2 ^ 64 - 1) ≤ mid → min (mid + k) (2 ^ 64 - 1) ≤ after → Rose before after
 rose_last before mid after n k some first second = omega arith
 
-failed_at : (name log : List ℕ) (before after : Outside) (it : Found name log before after (Err NotFetched)) → after.written ≡ before.written →
-    FailsLast it.first ⊎ FailsLast it.last → NotFound name log before after
-failed_at name log before after it unwritten (inl fails) = record {
+failed_at : (judge : Judging) (name log : List ℕ) (before after : Outside) (it : Found judge name log before after (Err NotFetched)) → after.written ≡ before.written →
+    FailsLast it.first ⊎ FailsLast it.last → NotFound judge name log before after
+failed_at judge name log before after it unwritten (inl fails) = record {
   run = it;
   unwritten = unwritten;
   name = fails.name;
@@ -161,7 +160,7 @@ failed_at name log before after it unwritten (inl fails) = record {
   rose = rose_first (before.faults fails.name) (it.mid.faults fails.name) (after.faults fails.name) _ _ (fails_last it.first fails)
       (it.brought.bound fails.name) (it.brought_log.bound fails.name);
 }
-failed_at name log before after it unwritten (inr fails) = record {
+failed_at judge name log before after it unwritten (inr fails) = record {
   run = it;
   unwritten = unwritten;
   name = fails.name;
@@ -171,6 +170,6 @@ failed_at name log before after it unwritten (inr fails) = record {
 }
 
 -- a check to which the shelf failed
-pub NotFound-found : (name log : List ℕ) (before after : Outside) → Found name log before after (Err NotFetched) → after.written ≡ before.written →
-    NotFound name log before after
-NotFound-found name log before after it unwritten = failed_at name log before after it unwritten (finds_fails name log it.first it.last it.finds)
+pub NotFound-found : (judge : Judging) (name log : List ℕ) (before after : Outside) → Found judge name log before after (Err NotFetched) → after.written ≡ before.written →
+    NotFound judge name log before after
+NotFound-found judge name log before after it unwritten = failed_at judge name log before after it unwritten (finds_fails judge name log it.first it.last it.finds)

@@ -12,7 +12,7 @@ use Rattle.rf_session.specs.declared.finding.Finding.TheVariants.{ShowLarge, Sho
 use Rattle.rf_session.specs.declared.reply.Code.{Code}
 use Rattle.rf_session.specs.declared.show_file.ShowFault.{ShowFault}
 use Rattle.rf_session.specs.declared.show_file.ShowFault.TheVariants.{Line as BadLine, Shelf as NotFetched}
-use Rattle.rf_session.specs.Checked.{finding_of, finding_on, log_limit, Fetching, Found, FoundInLog, FoundOver, IfFound, KeepsOthers}
+use Rattle.rf_session.specs.Checked.{Fetching, Found, FoundInLog, FoundOver, IfFound, Judging, KeepsOthers, finding_of, finding_on, log_limit}
 use Rattle.rf_session.specs.Fetches.{Fetched, absent, fault, found, too_large, of_file, Got, Outside, MayCome, Brought, BroughtWithin, KeptCounts}
 use Rattle.rf_session.specs.ShowFile.{IfShow, ShowRead, are_naming}
 use Rattle.rf_session.specs.Top.{script}
@@ -52,11 +52,11 @@ Fetching-after finds more before mid after fs brought kept goes later = record {
 }
 
 -- the log alone is fetched
-pub FoundInLog-fetched : (r : Result Finding CheckFault) (show : ShowData) (log : List ℕ) (got : Got) (before after : Outside) →
+pub FoundInLog-fetched : (judge : Judging) (r : Result Finding CheckFault) (show : ShowData) (log : List ℕ) (got : Got) (before after : Outside) →
     BroughtWithin log_limit before after (of_file log got ∷ []) → ((other : List ℕ) → other ≢ log → after.faults other ≡ before.faults other) →
-    IfFound r (λ end. end ≡ finding_on show got) → IfFound r (FoundInLog show log before after)
-FoundInLog-fetched r show log got before after brought others finds =
-    IfFound-weaker r (λ end. end ≡ finding_on show got) (FoundInLog show log before after) (λ end is. record {
+    IfFound r (λ end. end ≡ finding_on judge show got) → IfFound r (FoundInLog judge show log before after)
+FoundInLog-fetched judge r show log got before after brought others finds =
+    IfFound-weaker r (λ end. end ≡ finding_on judge show got) (FoundInLog judge show log before after) (λ end is. record {
       first = [];
       last = of_file log got ∷ [];
       finds = (refl, (got, refl, is));
@@ -67,56 +67,56 @@ FoundInLog-fetched r show log got before after brought others finds =
     }) finds
 
 -- the text of the log is judged
-pub FoundInLog-judged : (r : Result Finding CheckFault) (show : ShowData) (log bytes text : List ℕ) (got : Got) (before after : Outside) → got ≡ found bytes →
+pub FoundInLog-judged : (judge : Judging) (r : Result Finding CheckFault) (show : ShowData) (log bytes text : List ℕ) (got : Got) (before after : Outside) → got ≡ found bytes →
     text ≡ bytes → BroughtWithin log_limit before after (of_file log got ∷ []) → ((other : List ℕ) → other ≢ log → after.faults other ≡ before.faults other) →
-    IfFound r (λ end. end ≡ finding_of show (log_of text)) → IfFound r (FoundInLog show log before after)
-FoundInLog-judged r show log bytes text got before after is same brought others finds =
-    let path : finding_of show (log_of text) ≡ finding_on show got = rw (is, same) refl in
-    FoundInLog-fetched r show log got before after brought others
-    (IfFound-weaker r (λ end. end ≡ finding_of show (log_of text)) (λ end. end ≡ finding_on show got) (λ end holds. holds ∙ path) finds)
+    IfFound r (λ end. end ≡ finding_of judge show (log_of text)) → IfFound r (FoundInLog judge show log before after)
+FoundInLog-judged judge r show log bytes text got before after is same brought others finds =
+    let path : finding_of judge show (log_of text) ≡ finding_on judge show got = rw (is, same) refl in
+    FoundInLog-fetched judge r show log got before after brought others
+    (IfFound-weaker r (λ end. end ≡ finding_of judge show (log_of text)) (λ end. end ≡ finding_on judge show got) (λ end holds. holds ∙ path) finds)
 
 -- the show was made, and the log is judged over it
-pub FoundOver-made : (r : Result Finding CheckFault) (bytes log : List ℕ) (show : ShowData) (before mid after : Outside) →
-    ShowRead (lines_of (script bytes)) before mid (Ok show) → IfFound r (FoundInLog show log mid after) → IfFound r (FoundOver bytes log before after)
-FoundOver-made r bytes log show before mid after read finds =
-    IfFound-weaker r (FoundInLog show log mid after) (FoundOver bytes log before after)
+pub FoundOver-made : (judge : Judging) (r : Result Finding CheckFault) (bytes log : List ℕ) (show : ShowData) (before mid after : Outside) →
+    ShowRead (lines_of (script bytes)) before mid (Ok show) → IfFound r (FoundInLog judge show log mid after) → IfFound r (FoundOver judge bytes log before after)
+FoundOver-made judge r bytes log show before mid after read finds =
+    IfFound-weaker r (FoundInLog judge show log mid after) (FoundOver judge bytes log before after)
     (λ end later. Fetching-after _ _ before mid after read.fetches read.brought read.kept
     (λ gs hs holds. rw (holds.0, append-nil read.fetches) (Ok show, read.reads, holds.1)) later) finds
 
 -- a line of the show was refused
-pub FoundOver-line : (r : Result ShowData ShowFault) (line : ℕ) (code : Code) (bytes log : List ℕ) (before after : Outside) → r ≡ Err (BadLine line code) →
-    IfShow r (ShowRead (lines_of (script bytes)) before after) → FoundOver bytes log before after (Ok (ShowLine line code))
-FoundOver-line r line code bytes log before after is shown =
+pub FoundOver-line : (judge : Judging) (r : Result ShowData ShowFault) (line : ℕ) (code : Code) (bytes log : List ℕ) (before after : Outside) → r ≡ Err (BadLine line code) →
+    IfShow r (ShowRead (lines_of (script bytes)) before after) → FoundOver judge bytes log before after (Ok (ShowLine line code))
+FoundOver-line judge r line code bytes log before after is shown =
     let read = subst (λ (q : Result ShowData ShowFault). IfShow q (ShowRead (lines_of (script bytes)) before after)) is shown in
     Fetching-first _ before after read.fetches read.brought read.kept (Err (BadLine line code), read.reads, (refl, refl))
 
 -- the shelf failed at a file that a line of the show names
-pub FoundOver-shelf : (r : Result ShowData ShowFault) (bytes log : List ℕ) (before after : Outside) → r ≡ Err NotFetched →
-    IfShow r (ShowRead (lines_of (script bytes)) before after) → FoundOver bytes log before after (Err Shelf)
-FoundOver-shelf r bytes log before after is shown =
+pub FoundOver-shelf : (judge : Judging) (r : Result ShowData ShowFault) (bytes log : List ℕ) (before after : Outside) → r ≡ Err NotFetched →
+    IfShow r (ShowRead (lines_of (script bytes)) before after) → FoundOver judge bytes log before after (Err Shelf)
+FoundOver-shelf judge r bytes log before after is shown =
     let read = subst (λ (q : Result ShowData ShowFault). IfShow q (ShowRead (lines_of (script bytes)) before after)) is shown in
     Fetching-first _ before after read.fetches read.brought read.kept (Err NotFetched, read.reads, (refl, refl))
 
 -- the bytes of the show's file came
-pub Found-fetched : (r : Result Finding CheckFault) (show log bytes : List ℕ) (got : Got) (before mid after : Outside) → got ≡ found bytes →
+pub Found-fetched : (judge : Judging) (r : Result Finding CheckFault) (show log bytes : List ℕ) (got : Got) (before mid after : Outside) → got ≡ found bytes →
     Brought before mid (of_file show got ∷ []) → ((other : List ℕ) → other ≢ show → mid.faults other ≡ before.faults other) →
-    IfFound r (FoundOver bytes log mid after) → IfFound r (Found show log before after)
-Found-fetched r show log bytes got before mid after is brought others finds =
-    IfFound-weaker r (FoundOver bytes log mid after) (Found show log before after)
+    IfFound r (FoundOver judge bytes log mid after) → IfFound r (Found judge show log before after)
+Found-fetched judge r show log bytes got before mid after is brought others finds =
+    IfFound-weaker r (FoundOver judge bytes log mid after) (Found judge show log before after)
     (λ end later. Fetching-after _ _ before mid after (of_file show got ∷ []) brought (KeptCounts-file before mid show got others)
     (λ gs hs holds. (found bytes, gs, ap (λ g. of_file show g ∷ gs) is, holds)) later) finds
 
 -- the show's file is too large
-pub Found-large : (show log : List ℕ) (got : Got) (before after : Outside) → got ≡ too_large → Brought before after (of_file show got ∷ []) →
-    ((other : List ℕ) → other ≢ show → after.faults other ≡ before.faults other) → Found show log before after (Ok ShowLarge)
-Found-large show log got before after is brought others =
+pub Found-large : (judge : Judging) (show log : List ℕ) (got : Got) (before after : Outside) → got ≡ too_large → Brought before after (of_file show got ∷ []) →
+    ((other : List ℕ) → other ≢ show → after.faults other ≡ before.faults other) → Found judge show log before after (Ok ShowLarge)
+Found-large judge show log got before after is brought others =
     Fetching-first _ before after (of_file show got ∷ []) brought (KeptCounts-file before after show got others)
     (too_large, [], ap (λ g. of_file show g ∷ []) is, (refl, refl, refl))
 
 -- the shelf failed at the show's file
-pub Found-fault : (show log : List ℕ) (got : Got) (before after : Outside) → got ≡ fault → Brought before after (of_file show got ∷ []) →
-    ((other : List ℕ) → other ≢ show → after.faults other ≡ before.faults other) → Found show log before after (Err Shelf)
-Found-fault show log got before after is brought others =
+pub Found-fault : (judge : Judging) (show log : List ℕ) (got : Got) (before after : Outside) → got ≡ fault → Brought before after (of_file show got ∷ []) →
+    ((other : List ℕ) → other ≢ show → after.faults other ≡ before.faults other) → Found judge show log before after (Err Shelf)
+Found-fault judge show log got before after is brought others =
     Fetching-first _ before after (of_file show got ∷ []) brought (KeptCounts-file before after show got others)
     (fault, [], ap (λ g. of_file show g ∷ []) is, (refl, refl, refl))
 

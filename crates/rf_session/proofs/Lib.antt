@@ -1,6 +1,7 @@
 pub mod CheckEnds
 pub mod CheckFailures
 pub mod Checking
+pub mod Ending
 pub mod FetchLaws
 pub mod Follows
 pub mod Obeying
@@ -10,5 +11,4 @@ pub mod Serving
 pub mod ShowLineLaws
 pub mod ShowReading
 pub mod Starting
-pub mod Unasked
 pub mod UnfetchedLaws

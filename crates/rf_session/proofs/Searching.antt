@@ -1,11 +1,9 @@
 -- What a search wrote: its reply, or a part of it.
-use Rattle.std.proofs.Common.{◌≡◌, ◌+◌, ◌++◌, ℕ, suc, Bool, true, false, List, [], ◌∷◌, Some, None, Ok, Err, refl, ap, sym, subst, ◌∙◌, inl, inr, arith, length, take}
-use Rattle.std.proofs.lemmas.List.{take_all}
+use Rattle.std.proofs.Common.{◌≡◌, ◌+◌, ◌++◌, ℕ, suc, Bool, false, List, [], ◌∷◌, Some, None, Ok, Err, refl, ap, sym, subst, ◌∙◌, inl, inr, arith, length, take}
 use Rattle.std.specs.Prelude.{Result}
 use Rattle.std.specs.Result.{OnOk, is_err}
 use Rattle.std.specs.Io.KnownBytes.{Appends}
 use Rattle.std.specs.declared.option.Option.{Option}
-use Rattle.rf_base.specs.Piece.{AppendsPrefix}
 use Rattle.rf_base.proofs.Bytes.{Appends-then}
 use Rattle.rf_editor.specs.History.{History, accepted, edited_history}
 use Rattle.rf_log.specs.Solved.{Ending, IsSolved, planned, refuted, spent}
@@ -18,64 +16,43 @@ use Rattle.rf_show.specs.declared.edit.Edit.TheVariants.{Place}
 use Rattle.rf_show.specs.declared.refusal.Refusal.{Refusal}
 use Rattle.rf_solving.specs.Placing.{IsAdmitted, PlanIsAdmitted}
 use Rattle.rf_solving.specs.Solving.{IsBegun, IsEnded, plan_ats}
-use Rattle.rf_text.specs.declared.command.Command.{Command}
+use Rattle.rf_session.specs.declared.answer.Answer.{Answer}
+use Rattle.rf_session.specs.declared.answer.Answer.TheVariants.{Search}
 use Rattle.rf_session.specs.declared.machine.Stop.{Stop}
 use Rattle.rf_session.specs.declared.machine.Stop.TheVariants.{Write, Memory}
-use Rattle.rf_session.specs.declared.reply.Reply.{Reply}
 use Rattle.rf_session.specs.declared.reply.Reply.TheVariants.{Text}
-use Rattle.rf_session.specs.Fetches.{absent, outside}
-use Rattle.rf_session.specs.Run.{IsCut, Replied}
-use Rattle.rf_session.specs.Shows.{Does, LeavesAfter, LogPart, Obeys, PartsOf, budget_of, places}
-use Rattle.rf_session.proofs.FetchLaws.{Brought-absent}
+use Rattle.rf_session.specs.Run.{Writes, WritesPart}
+use Rattle.rf_session.specs.Shows.{AnswerPart, LeavesAfter, LogPart, Searches}
 
--- the step of a search that has ended
-ended_step : (old new : History) (command : Command) (n : ℕ) (ending : Ending) (log verdict : List ℕ) → budget_of command ≡ Some n →
-    IsEnded old.show n ending log verdict → LeavesAfter old (places command) (plan_ats old.show ending) new →
-    Obeys old (Ok command) absent (Text (log ++ verdict)) new
-ended_step old new command n ending log verdict is ended leaves =
-    subst (λ (budget : Option ℕ). Does old command budget absent (Text (log ++ verdict)) new) (sym is)
-    (refl, (ending, log ++ verdict, ended.whole, refl, leaves))
-
-pub searched_reply : (old new : History) (command : Command) (n : ℕ) (ending : Ending) (log verdict : List ℕ) (a b c : Option (List ℕ))
-    (file : List ℕ → Option (Option (List ℕ))) (faults : List ℕ → ℕ) → budget_of command ≡ Some n →
-    IsEnded old.show n ending log verdict → LeavesAfter old (places command) (plan_ats old.show ending) new →
-    Appends a b log → Appends b c verdict → Replied (Obeys old (Ok command)) new (outside a file faults) (outside c file faults) false
-searched_reply old new command n ending log verdict a b c file faults is ended leaves first second = record {
-  fetched = absent;
+-- a search has ended
+pub searched_reply : (old new : History) (n : ℕ) (places : Bool) (ending : Ending) (log verdict : List ℕ) (a b c : Option (List ℕ)) →
+    IsEnded old.show n ending log verdict → LeavesAfter old places (plan_ats old.show ending) new → Appends a b log → Appends b c verdict →
+    Writes (λ reply. Searches old n places reply new) a c false
+searched_reply old new n places ending log verdict a b c ended leaves first second = record {
   reply = Text (log ++ verdict);
-  took = ended_step old new command n ending log verdict is ended leaves;
-  brought = Brought-absent (outside a file faults) (outside c file faults) (λ name. refl) (λ name. refl);
-  kept = λ name none. refl;
+  took = (ending, log ++ verdict, ended.whole, refl, leaves);
   wrote = Appends-then a b c log verdict _ first second refl;
   refuses = refl;
 }
 
-may_stop : (old : History) (command : Command) (stop : Stop) (part : List ℕ) → LogPart old (budget_of command) absent part →
-    PartsOf old stop (Ok command) absent part
-may_stop old command Write part some = inr some
-may_stop old command Memory part some = some
+may_stop : (old : History) (answer : Answer) (stop : Stop) (part : List ℕ) → LogPart old answer part → AnswerPart stop old answer part
+may_stop old answer Write part some = inr some
+may_stop old answer Memory part some = some
 
 -- a part of the log was written
-pub begun_cut : (old : History) (command : Command) (stop : Stop) (n k : ℕ) (log : List ℕ) (a b : Option (List ℕ))
-    (file : List ℕ → Option (Option (List ℕ))) (faults : List ℕ → ℕ) → budget_of command ≡ Some n → IsBegun old.show n log →
-    Appends a b (take k log) → IsCut (PartsOf old stop (Ok command)) (outside a file faults) (outside b file faults)
-begun_cut old command stop n k log a b file faults is begun wrote = record {
-  fetched = absent;
+pub begun_cut : (old : History) (places : Bool) (stop : Stop) (n k : ℕ) (log : List ℕ) (a b : Option (List ℕ)) → IsBegun old.show n log →
+    Appends a b (take k log) → WritesPart (AnswerPart stop old (Search n places)) a b
+begun_cut old places stop n k log a b begun wrote = record {
   part = take k log;
-  may = inr (may_stop old command stop (take k log)
-      (subst (λ (budget : Option ℕ). LogPart old budget absent (take k log)) (sym is) (refl, log, begun, k, refl)));
-  told = tt;
-  bound = λ name. omega arith;
+  may = inr (may_stop old (Search n places) stop (take k log) (log, begun, k, refl));
   wrote = wrote;
 }
 
 -- all of the log was
-pub whole_cut : (old : History) (command : Command) (stop : Stop) (n : ℕ) (log : List ℕ) (a b : Option (List ℕ))
-    (file : List ℕ → Option (Option (List ℕ))) (faults : List ℕ → ℕ) → budget_of command ≡ Some n → IsBegun old.show n log →
-    Appends a b log → IsCut (PartsOf old stop (Ok command)) (outside a file faults) (outside b file faults)
-whole_cut old command stop n log a b file faults is begun wrote =
-    begun_cut old command stop n (length log) log a b file faults is begun
-    (subst (λ (part : List ℕ). Appends a b part) (sym (all_of log)) wrote)
+pub whole_cut : (old : History) (places : Bool) (stop : Stop) (n : ℕ) (log : List ℕ) (a b : Option (List ℕ)) → IsBegun old.show n log →
+    Appends a b log → WritesPart (AnswerPart stop old (Search n places)) a b
+whole_cut old places stop n log a b begun wrote =
+    begun_cut old places stop n (length log) log a b begun (subst (λ (part : List ℕ). Appends a b part) (sym (all_of log)) wrote)
   where
     all_of : (xs : List ℕ) → take (length xs) xs ≡ xs
     all_of [] = refl
@@ -88,16 +65,12 @@ take_past (x ∷ xs) ys k =
     ap (λ zs. x ∷ zs) (take_past xs ys k) ∙ ap (λ n. take n (x ∷ (xs ++ ys))) one
 
 -- the log was written, and a part of the verdict
-pub verdict_cut : (old new : History) (command : Command) (n k : ℕ) (ending : Ending) (log verdict : List ℕ) (a b c : Option (List ℕ))
-    (file : List ℕ → Option (Option (List ℕ))) (faults : List ℕ → ℕ) → budget_of command ≡ Some n →
-    IsEnded old.show n ending log verdict → LeavesAfter old (places command) (plan_ats old.show ending) new →
-    Appends a b log → Appends b c (take k verdict) → IsCut (PartsOf old Write (Ok command)) (outside a file faults) (outside c file faults)
-verdict_cut old new command n k ending log verdict a b c file faults is ended leaves first second = record {
-  fetched = absent;
+pub verdict_cut : (old new : History) (n k : ℕ) (places : Bool) (ending : Ending) (log verdict : List ℕ) (a b c : Option (List ℕ)) →
+    IsEnded old.show n ending log verdict → LeavesAfter old places (plan_ats old.show ending) new →
+    Appends a b log → Appends b c (take k verdict) → WritesPart (AnswerPart Write old (Search n places)) a c
+verdict_cut old new n k places ending log verdict a b c ended leaves first second = record {
   part = log ++ take k verdict;
-  may = inr (inl (Text (log ++ verdict), new, ended_step old new command n ending log verdict is ended leaves, length log + k, take_past log verdict k));
-  told = tt;
-  bound = λ name. omega arith;
+  may = inr (inl (Text (log ++ verdict), new, (ending, log ++ verdict, ended.whole, refl, leaves), length log + k, take_past log verdict k));
   wrote = Appends-then a b c log (take k verdict) _ first second refl;
 }
 
@@ -125,10 +98,8 @@ pub of_ok : {X E : Type 0} (r : Result X E) (P : Type 0) → is_err r ≡ false 
 of_ok (Ok x) P fine holds = holds
 of_ok (Err e) P fine holds = cc
 
--- what an edit by a plan leaves, in the words of the command and of the history's show
-pub leaves_here : (old new : History) (command : Command) (placing : Bool) (ats : Option (List (Option ℕ))) (show : ShowData) (ending : Ending) →
-    show ≡ old.show → placing ≡ places command → ats ≡ plan_ats show ending → LeavesAfter old placing ats new →
-    LeavesAfter old (places command) (plan_ats old.show ending) new
-leaves_here old new command placing ats show ending same is are leaves =
-    subst (λ (b : Bool). LeavesAfter old b (plan_ats old.show ending) new) is
-    (subst (λ (a : Option (List (Option ℕ))). LeavesAfter old placing a new) (are ∙ ap (λ s. plan_ats s ending) same) leaves)
+-- what an edit by a plan leaves, in the words of the history's show
+pub leaves_here : (old new : History) (places : Bool) (ats : Option (List (Option ℕ))) (show : ShowData) (ending : Ending) →
+    show ≡ old.show → ats ≡ plan_ats show ending → LeavesAfter old places ats new → LeavesAfter old places (plan_ats old.show ending) new
+leaves_here old new places ats show ending same are leaves =
+    subst (λ (a : Option (List (Option ℕ))). LeavesAfter old places a new) (are ∙ ap (λ s. plan_ats s ending) same) leaves

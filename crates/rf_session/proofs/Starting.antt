@@ -5,7 +5,7 @@ use Rattle.std.proofs.lemmas.Bool.Decides.{nat_tests}
 use Rattle.std.specs.declared.option.Option.{Option}
 use Rattle.rf_base.specs.declared.line_reader.LineReader.{LineReader}
 use Rattle.rf_base.specs.declared.status.Status.{Status}
-use Rattle.rf_base.specs.declared.status.Status.TheVariants.{Done, Refused, Words, Read, Write, Shelf, Memory, Long}
+use Rattle.rf_base.specs.declared.status.Status.TheVariants.{Done, Refused, Read, Write, Memory, Long}
 use Rattle.rf_base.specs.Input.{Input, lines_of, is_long}
 use Rattle.rf_base.specs.Reader.{input_of, pending_of}
 use Rattle.rf_base.specs.Script.{Line}
@@ -16,7 +16,7 @@ use Rattle.rf_session.specs.declared.machine.Stop.TheVariants.{Write as ByWrite,
 use Rattle.rf_session.specs.Fetches.{Fetched, absent, Outside}
 use Rattle.rf_session.specs.Run.{answered, Answered, Step, Cut}
 use Rattle.rf_session.specs.Session.{Breaks, BreaksOff, Finishes, Ends}
-use Rattle.rf_session.specs.Top.{script, script_limit, Headline, RepliesToTaken, RepliesToAll, RepliesToSome, IsReadThrough, EndsWell, Serves}
+use Rattle.rf_session.specs.Top.{script, script_limit, Headline, RepliesToTaken, RepliesToAll, RepliesToSome, IsReadThrough, Serves}
 use Rattle.rf_session.specs.Shows.{Steps, Parts}
 use Rattle.rf_editor.specs.History.{History, first_history}
 use Rattle.rf_session.proofs.FetchLaws.{Brought-absent}
@@ -71,7 +71,8 @@ Serves-served status start last before after r r' s s' first starts drained told
 not_long : (bytes : List ℕ) → length bytes ≤ script_limit → is_long (script bytes) ≡ true → ⊥
 not_long bytes within long = absurd (grind (arith, nat_tests))
 
-fits : (before after : Outside) (s s' : Option (List ℕ)) → WhereTold s s' (λ bytes _. RepliesToAll before after bytes) →
+-- a script within the limit is not too long
+pub fits : (before after : Outside) (s s' : Option (List ℕ)) → WhereTold s s' (λ bytes _. RepliesToAll before after bytes) →
     IsSomeAnd s (λ bytes. length bytes ≤ script_limit) → ⊥
 fits before after None s' told small = small
 fits before after (Some bytes) None told small = told
@@ -141,14 +142,3 @@ module _ (before after : Outside) (s s' : Option (List ℕ)) where
   pub Serves-memory : (status : Status) → WhereTold s s' (Serves status before after) → status ≡ Memory →
       WhereTold s s' (λ bytes _. RepliesToSome ByMemory before after bytes)
   Serves-memory status told is = told_of status Memory _ is told (λ x y serves. some_bounded _ x serves.ends)
-
-  pub Serves-well : (status : Status) → WhereTold s s' (Serves status before after) → (status ≡ Read → ⊥) → (status ≡ Write → ⊥) →
-      (status ≡ Words → ⊥) → (status ≡ Shelf → ⊥) → IsSomeAnd s (λ bytes. length bytes ≤ script_limit) → EndsWell status
-  Serves-well Done told no_read no_write no_words no_shelf small = tt
-  Serves-well Refused told no_read no_write no_words no_shelf small = tt
-  Serves-well Memory told no_read no_write no_words no_shelf small = tt
-  Serves-well Words told no_read no_write no_words no_shelf small = no_words refl
-  Serves-well Read told no_read no_write no_words no_shelf small = no_read refl
-  Serves-well Write told no_read no_write no_words no_shelf small = no_write refl
-  Serves-well Shelf told no_read no_write no_words no_shelf small = no_shelf refl
-  Serves-well Long told no_read no_write no_words no_shelf small = absurd (fits before after s s' (Serves-long Long told refl) small)

@@ -1,5 +1,5 @@
 -- A line is answered E11 only where its fetch was a fault.
-use Rattle.std.proofs.Common.{◌≡◌, ◌≤◌, ◌+◌, ◌-◌, ◌^◌, ◌&&◌, min, ℕ, Bool, true, false, List, [], ◌∷◌, ◌++◌, Result, Ok, Err, count_by, cond, refl, sym, ◌∙◌, arith}
+use Rattle.std.proofs.Common.{◌≡◌, ◌≤◌, ◌+◌, ◌-◌, ◌^◌, ◌&&◌, min, ℕ, Bool, true, false, List, [], ◌∷◌, ◌++◌, Result, Ok, Err, count_by, cond, refl, ap, sym, ◌∙◌, arith}
 use Rattle.std.proofs.lemmas.Bool.{and_parts, false≢true}
 use Rattle.std.specs.List.{zip}
 use Rattle.std.specs.Str.{bytes_eq}
@@ -22,15 +22,26 @@ use Rattle.rf_text.specs.declared.command.Command.TheVariants as command
 use Rattle.rf_text.specs.declared.command.UnknownLine.{UnknownLine}
 use Rattle.rf_profiles.specs.File.{profiles_of}
 use Rattle.rf_scan.specs.Scan.{scan_of}
+use Rattle.rf_session.specs.declared.answer.Answer.{Answer}
+use Rattle.rf_session.specs.declared.answer.Answer.TheVariants.{Reply as Says, Search}
 use Rattle.rf_session.specs.declared.reply.Reply.{Reply}
 use Rattle.rf_session.specs.Fetches.{Fetched, of_file, Got, found, too_large, fault, Outside, fails_at, fetch_of}
 use Rattle.rf_session.specs.Files.{hot_or, profiles_or}
 use Rattle.rf_session.specs.Run.{Run, Step}
-use Rattle.rf_session.specs.Shows.{Obeys, Steps, coded, edited_by, file_of, moved, outcome, profiles_edit, scan_edit}
+use Rattle.rf_session.specs.Shows.{Answers, Obeys, Steps, coded, edited_by, file_of, moved, outcome, profiles_edit, scan_edit}
 use Rattle.rf_session.specs.Unfetched.{asks_of, is_file, is_shelf_fault, names, unfetched, IsBounded}
 use Rattle.rf_session.proofs.FetchLaws.{count_by-append}
 
-moved_other : (old : History) (r : Result History Refusal) → is_shelf_fault (moved old (coded r)).reply ≡ false
+-- whether an answer is E11
+abbrev answer_faults : Answer → Bool
+answer_faults (Says reply) = is_shelf_fault reply
+answer_faults (Search n places) = false
+
+gives_fault : (history new : History) (answer : Answer) (reply : Reply) → Answers history answer reply new → is_shelf_fault reply ≡ true → answer_faults answer ≡ true
+gives_fault history new (Says said) reply (is, stays) h = sym (ap is_shelf_fault is) ∙ h
+gives_fault history new (Search n places) reply (ending, text, searched, is, leaves) h = absurd (false≢true (sym (ap is_shelf_fault is) ∙ h))
+
+moved_other : (old : History) (r : Result History Refusal) → answer_faults (moved old (coded r)).answer ≡ false
 moved_other old (Ok h) = refl
 moved_other old (Err refusal.Unknown) = refl
 moved_other old (Err refusal.Taken) = refl
@@ -40,14 +51,14 @@ moved_other old (Err refusal.NoFrequency) = refl
 moved_other old (Err refusal.Locked) = refl
 moved_other old (Err refusal.Full) = refl
 
-profiles_other : (old : History) (r : Result (List Profile) ProfilesFault) → is_shelf_fault (edited_by old (profiles_edit (profiles_or r))).reply ≡ false
+profiles_other : (old : History) (r : Result (List Profile) ProfilesFault) → answer_faults (edited_by old (profiles_edit (profiles_or r))).answer ≡ false
 profiles_other old (Ok list) = moved_other old (edited_history old (edit.AddProfiles list))
 profiles_other old (Err profiles.Toml) = refl
 profiles_other old (Err (profiles.BadProfile number field)) = refl
 profiles_other old (Err profiles.Memory) = refl
 
 scan_other : (old : History) (file zone : List ℕ) (threshold : Decimal) (width : ℕ) (sep : Sep) (r : Result (List Point) ScanFault) →
-    is_shelf_fault (edited_by old (scan_edit file zone threshold width sep (hot_or threshold r))).reply ≡ false
+    answer_faults (edited_by old (scan_edit file zone threshold width sep (hot_or threshold r))).answer ≡ false
 scan_other old file zone threshold width sep (Ok points) = moved_other old _
 scan_other old file zone threshold width sep (Err scan.NoPoints) = refl
 scan_other old file zone threshold width sep (Err (scan.BadRecord number field)) = refl
@@ -55,36 +66,29 @@ scan_other old file zone threshold width sep (Err scan.Many) = refl
 scan_other old file zone threshold width sep (Err scan.Memory) = refl
 
 -- what came of a file is a fault where the reply is E11
-profiles_fault : (old : History) (name file : List ℕ) (got : Got) → is_shelf_fault (outcome old (command.Profiles file) got).reply ≡ true →
+profiles_fault : (old : History) (name file : List ℕ) (got : Got) → answer_faults (outcome old (command.Profiles file) got).answer ≡ true →
     fails_at name (of_file file got) ≡ bytes_eq file name
 profiles_fault old name file (found bytes) h = absurd (false≢true (sym (profiles_other old (profiles_of bytes)) ∙ h))
 profiles_fault old name file too_large h = absurd (false≢true h)
 profiles_fault old name file fault h = refl
 
 scan_fault : (old : History) (name file zone : List ℕ) (threshold : Decimal) (width : ℕ) (sep : Sep) (got : Got) →
-    is_shelf_fault (outcome old (command.Scan file zone threshold width sep) got).reply ≡ true → fails_at name (of_file file got) ≡ bytes_eq file name
+    answer_faults (outcome old (command.Scan file zone threshold width sep) got).answer ≡ true → fails_at name (of_file file got) ≡ bytes_eq file name
 scan_fault old name file zone threshold width sep (found bytes) h = absurd (false≢true (sym (scan_other old file zone threshold width sep (scan_of sep bytes)) ∙ h))
 scan_fault old name file zone threshold width sep too_large h = absurd (false≢true h)
 scan_fault old name file zone threshold width sep fault h = refl
 
 command_fault : (old : History) (name : List ℕ) (c : Command) (got : Got) → is_file name (file_of c) ≡ true →
-    is_shelf_fault (outcome old c got).reply ≡ true → fails_at name (fetch_of (file_of c) got) ≡ true
+    answer_faults (outcome old c got).answer ≡ true → fails_at name (fetch_of (file_of c) got) ≡ true
 command_fault old name (command.Profiles file) got asks h = profiles_fault old name file got h ∙ asks
 command_fault old name (command.Scan file zone threshold width sep) got asks h = scan_fault old name file zone threshold width sep got h ∙ asks
 command_fault old name _ got asks h = absurd (false≢true asks)
 
-does_fault : (old new : History) (name : List ℕ) (c : Command) (fetched : Fetched) (reply : Reply) → Obeys old (Ok c) fetched reply new →
-    is_file name (file_of c) ≡ true → is_shelf_fault reply ≡ true → fails_at name fetched ≡ true
-does_fault old new name (command.Profiles file) fetched reply (got, brought, says, goes) asks h =
-    rw brought (command_fault old name (command.Profiles file) got asks (rw says at h))
-does_fault old new name (command.Scan file zone threshold width sep) fetched reply (got, brought, says, goes) asks h =
-    rw brought (command_fault old name (command.Scan file zone threshold width sep) got asks (rw says at h))
-does_fault old new name _ fetched reply obeys asks h = absurd (false≢true asks)
-
 said_fault : (old new : History) (name : List ℕ) (said : Result Command UnknownLine) (fetched : Fetched) (reply : Reply) → Obeys old said fetched reply new →
     asks_of name said ≡ true → is_shelf_fault reply ≡ true → fails_at name fetched ≡ true
 said_fault old new name (Err unknown) fetched reply obeys asks h = absurd (false≢true asks)
-said_fault old new name (Ok c) fetched reply obeys asks h = does_fault old new name c fetched reply obeys asks h
+said_fault old new name (Ok c) fetched reply (got, brought, gives) asks h =
+    rw brought (command_fault old name c got asks (gives_fault (outcome old c got).history new (outcome old c got).answer reply gives h))
 
 step_fault : (old new : History) (name : List ℕ) (line : Line) (fetched : Fetched) (reply : Reply) → Step Steps old line fetched reply new →
     (names name line && is_shelf_fault reply) ≡ true → fails_at name fetched ≡ true

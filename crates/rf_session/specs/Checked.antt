@@ -1,5 +1,5 @@
 -- What a check of a log over the show of a show file comes to.
-use Rattle.std.specs.Prelude.{◌≡◌, ℕ, Bool, true, false, List, [], ◌∷◌, ◌++◌, Option, Some, Result, Ok, Err}
+use Rattle.std.specs.Prelude.{◌≡◌, ℕ, Bool, true, false, List, [], ◌∷◌, ◌++◌, Result, Ok, Err}
 use Rattle.std.specs.Io.KnownBytes.{Appends}
 use Rattle.std.specs.List.{list_any}
 use Rattle.std.specs.Str.{bytes_eq}
@@ -13,8 +13,6 @@ use Rattle.rf_log.specs.LogText.{LogData, log_of}
 use Rattle.rf_log.specs.Walk.{verdict_of}
 use Rattle.rf_show.specs.Case.{case_of}
 use Rattle.rf_show.specs.Show.{ShowData}
-use Rattle.rf_words.specs.declared.asked.Asked.{Asked}
-use Rattle.rf_words.specs.declared.asked.Asked.TheVariants.{Check}
 use Rattle.rf_session.specs.declared.check.CheckFault.{CheckFault}
 use Rattle.rf_session.specs.declared.check.CheckFault.TheVariants.{Shelf as NotFetched, Memory as NoMemory}
 use Rattle.rf_session.specs.declared.finding.Finding.{Finding}
@@ -30,43 +28,51 @@ use Rattle.rf_session.specs.Top.{script}
 abbrev pub log_limit : ℕ
 log_limit = 268_435_456
 
+-- what a log comes to over a show
+abbrev pub Judging : Type 0
+Judging = ShowData → LogData → Finding
+
+-- a log is judged by its walk
+abbrev pub judged : Judging
+judged show log = Judged (verdict_of (case_of show) (lines_over show log))
+
 -- the finding on a log over a show, or on a text that is no log
-abbrev pub finding_of : ShowData → Result LogData ℕ → Result Finding CheckFault
-finding_of show (Ok log) = Ok (Judged (verdict_of (case_of show) (lines_over show log)))
-finding_of show (Err line) = Ok (LogLine line)
+abbrev pub finding_of : Judging → ShowData → Result LogData ℕ → Result Finding CheckFault
+finding_of judge show (Ok log) = Ok (judge show log)
+finding_of judge show (Err line) = Ok (LogLine line)
 
 -- the finding where this came of the log's file
-abbrev pub finding_on : ShowData → Got → Result Finding CheckFault
-finding_on show (found bytes) = finding_of show (log_of bytes)
-finding_on show too_large = Ok LogLarge
-finding_on show fault = Err NotFetched
+abbrev pub finding_on : Judging → ShowData → Got → Result Finding CheckFault
+finding_on judge show (found bytes) = finding_of judge show (log_of bytes)
+finding_on judge show too_large = Ok LogLarge
+finding_on judge show fault = Err NotFetched
 
 -- the log is fetched, and judged over the show
-abbrev pub FindsInLog : ShowData → List ℕ → List Fetched → Result Finding CheckFault → Type 0
-FindsInLog show log last end = (got : Got) × (last ≡ of_file log got ∷ []) × (end ≡ finding_on show got)
+abbrev pub FindsInLog : Judging → ShowData → List ℕ → List Fetched → Result Finding CheckFault → Type 0
+FindsInLog judge show log last end = (got : Got) × (last ≡ of_file log got ∷ []) × (end ≡ finding_on judge show got)
 
 -- the lines of the show's file came to this
-abbrev pub FindsAfter : Result ShowData ShowFault → List ℕ → List Fetched → Result Finding CheckFault → Type 0
-FindsAfter (Ok show) log last end = FindsInLog show log last end
-FindsAfter (Err (show.Line number code)) log last end = (last ≡ []) × (end ≡ Ok (ShowLine number code))
-FindsAfter (Err show.Shelf) log last end = (last ≡ []) × (end ≡ Err NotFetched)
-FindsAfter (Err show.Memory) log last end = ⊥
+abbrev pub FindsAfter : Judging → Result ShowData ShowFault → List ℕ → List Fetched → Result Finding CheckFault → Type 0
+FindsAfter judge (Ok show) log last end = FindsInLog judge show log last end
+FindsAfter judge (Err (show.Line number code)) log last end = (last ≡ []) × (end ≡ Ok (ShowLine number code))
+FindsAfter judge (Err show.Shelf) log last end = (last ≡ []) × (end ≡ Err NotFetched)
+FindsAfter judge (Err show.Memory) log last end = ⊥
 
 -- the show's file has these bytes
-abbrev pub FindsOver : List ℕ → List ℕ → List Fetched → List Fetched → Result Finding CheckFault → Type 0
-FindsOver bytes log lines last end =
-    (read : Result ShowData ShowFault) × ReadsShow (lines_of (script bytes)) lines read × FindsAfter read log last end
+abbrev pub FindsOver : Judging → List ℕ → List ℕ → List Fetched → List Fetched → Result Finding CheckFault → Type 0
+FindsOver judge bytes log lines last end =
+    (read : Result ShowData ShowFault) × ReadsShow (lines_of (script bytes)) lines read × FindsAfter judge read log last end
 
 -- this came of the show's file
-abbrev pub FindsFrom : Got → List ℕ → List Fetched → List Fetched → Result Finding CheckFault → Type 0
-FindsFrom (found bytes) log lines last end = FindsOver bytes log lines last end
-FindsFrom too_large log lines last end = (lines ≡ []) × (last ≡ []) × (end ≡ Ok ShowLarge)
-FindsFrom fault log lines last end = (lines ≡ []) × (last ≡ []) × (end ≡ Err NotFetched)
+abbrev pub FindsFrom : Judging → Got → List ℕ → List Fetched → List Fetched → Result Finding CheckFault → Type 0
+FindsFrom judge (found bytes) log lines last end = FindsOver judge bytes log lines last end
+FindsFrom judge too_large log lines last end = (lines ≡ []) × (last ≡ []) × (end ≡ Ok ShowLarge)
+FindsFrom judge fault log lines last end = (lines ≡ []) × (last ≡ []) × (end ≡ Err NotFetched)
 
 -- A check of a log over a show, with these fetches, comes to this. The show's file is fetched, and then, line by line up to the first
 -- that makes no show, the files that its lines name; last, where the show is made, the log.
-abbrev pub Finds : List ℕ → List ℕ → List Fetched → List Fetched → Result Finding CheckFault → Type 0
-Finds show log first last end = (got : Got) × (lines : List Fetched) × (first ≡ of_file show got ∷ lines) × FindsFrom got log lines last end
+abbrev pub Finds : Judging → List ℕ → List ℕ → List Fetched → List Fetched → Result Finding CheckFault → Type 0
+Finds judge show log first last end = (got : Got) × (lines : List Fetched) × (first ≡ of_file show got ∷ lines) × FindsFrom judge got log lines last end
 
 -- A check came to this, over a shelf that brought what was asked for. The counts of all other files stayed as they were.
 pub record Fetching (goes : List Fetched → List Fetched → Type 0) (before after : Outside) : Type 0 where
@@ -78,16 +84,20 @@ pub record Fetching (goes : List Fetched → List Fetched → Type 0) (before af
   pub brought_log : BroughtWithin log_limit mid after last
   pub kept : KeptCounts before after (first ++ last)
 
+-- this file was asked for
+abbrev pub IsAsked : {goes : List Fetched → List Fetched → Type 0} {before after : Outside} → Fetching goes before after → List ℕ → Type 0
+IsAsked run name = list_any (asks_for name) (run.first ++ run.last) ≡ true
+
 -- what a check finds over a shelf, stage by stage: from the start, over the show of these bytes, and in the log of a file
 
-abbrev pub Found : List ℕ → List ℕ → Outside → Outside → Result Finding CheckFault → Type 0
-Found show log before after end = Fetching (λ first last. Finds show log first last end) before after
+abbrev pub Found : Judging → List ℕ → List ℕ → Outside → Outside → Result Finding CheckFault → Type 0
+Found judge show log before after end = Fetching (λ first last. Finds judge show log first last end) before after
 
-abbrev pub FoundOver : List ℕ → List ℕ → Outside → Outside → Result Finding CheckFault → Type 0
-FoundOver bytes log before after end = Fetching (λ lines last. FindsOver bytes log lines last end) before after
+abbrev pub FoundOver : Judging → List ℕ → List ℕ → Outside → Outside → Result Finding CheckFault → Type 0
+FoundOver judge bytes log before after end = Fetching (λ lines last. FindsOver judge bytes log lines last end) before after
 
-abbrev pub FoundInLog : ShowData → List ℕ → Outside → Outside → Result Finding CheckFault → Type 0
-FoundInLog show log before after end = Fetching (λ lines last. (lines ≡ []) × FindsInLog show log last end) before after
+abbrev pub FoundInLog : Judging → ShowData → List ℕ → Outside → Outside → Result Finding CheckFault → Type 0
+FoundInLog judge show log before after end = Fetching (λ lines last. (lines ≡ []) × FindsInLog judge show log last end) before after
 
 -- P holds of what a check found, where memory was found
 abbrev pub IfFound : Result Finding CheckFault → (Result Finding CheckFault → Type 0) → Type 0
@@ -96,10 +106,10 @@ IfFound (Err NotFetched) P = P (Err NotFetched)
 IfFound (Err NoMemory) P = Unit {0}
 
 -- A check asks for this file.
-pub record AsksFor (show log : List ℕ) (before after : Outside) (name : List ℕ) : Type 0 where
+pub record AsksFor (judge : Judging) (show log : List ℕ) (before after : Outside) (name : List ℕ) : Type 0 where
   pub end : Result Finding CheckFault
-  pub run : Found show log before after end
-  pub asks : list_any (asks_for name) (run.first ++ run.last) ≡ true
+  pub run : Found judge show log before after end
+  pub asks : IsAsked run name
 
 -- whether a line of the show's file, of which this came, names this file
 abbrev pub is_named : Got → List ℕ → Bool
@@ -114,16 +124,16 @@ pub record KeepsOthers (show log : List ℕ) (before after : Outside) : Type 0 w
   pub others : (name : List ℕ) → bytes_eq show name ≡ false → bytes_eq log name ≡ false → is_named got name ≡ false → after.faults name ≡ before.faults name
 
 -- A check wrote its finding, and ended with the finding's status.
-pub record Writes (show log : List ℕ) (before after : Outside) (status : Status) : Type 0 where
+pub record Writes (judge : Judging) (show log : List ℕ) (before after : Outside) (status : Status) : Type 0 where
   pub finding : Finding
-  pub run : Found show log before after (Ok finding)
+  pub run : Found judge show log before after (Ok finding)
   pub wrote : Appends before.written after.written (finding_text finding)
   pub ends : status ≡ status_of finding
 
 -- The sink failed at the finding.
-pub record WritesPart (show log : List ℕ) (before after : Outside) : Type 0 where
+pub record WritesPart (judge : Judging) (show log : List ℕ) (before after : Outside) : Type 0 where
   pub finding : Finding
-  pub run : Found show log before after (Ok finding)
+  pub run : Found judge show log before after (Ok finding)
   pub wrote : AppendsPrefix before.written after.written (finding_text finding)
 
 -- No memory was found, and nothing was written.
@@ -132,27 +142,20 @@ pub record Unjudged (show log : List ℕ) (before after : Outside) : Type 0 wher
   pub keeps : KeepsOthers show log before after
 
 -- The shelf failed at a file for which the check asked, the last one, and nothing was written.
-pub record NotFound (show log : List ℕ) (before after : Outside) : Type 0 where
-  pub run : Found show log before after (Err NotFetched)
+pub record NotFound (judge : Judging) (show log : List ℕ) (before after : Outside) : Type 0 where
+  pub run : Found judge show log before after (Err NotFetched)
   pub unwritten : after.written ≡ before.written
   pub name : List ℕ
-  pub asks : list_any (asks_for name) (run.first ++ run.last) ≡ true
+  pub asks : IsAsked run name
   pub rose : Rose (before.faults name) (after.faults name)
 
--- The shelf failed at a file for which a check asked that these words ask for.
-pub record CheckFails (asked : Option Asked) (before after : Outside) : Type 0 where
-  pub show : List ℕ
-  pub log : List ℕ
-  pub check : asked ≡ Some (Check show log)
-  pub fails : NotFound show log before after
-
 -- how a check of a log over a show ends
-abbrev pub Checks : Status → List ℕ → List ℕ → Outside → Outside → Type 0
-Checks Done show log before after = Writes show log before after Done
-Checks Refused show log before after = Writes show log before after Refused
-Checks Shelf show log before after = NotFound show log before after
-Checks Write show log before after = WritesPart show log before after
-Checks Memory show log before after = Unjudged show log before after
-Checks Words show log before after = ⊥
-Checks Read show log before after = ⊥
-Checks Long show log before after = ⊥
+abbrev pub Checks : Judging → Status → List ℕ → List ℕ → Outside → Outside → Type 0
+Checks judge Done show log before after = Writes judge show log before after Done
+Checks judge Refused show log before after = Writes judge show log before after Refused
+Checks judge Shelf show log before after = NotFound judge show log before after
+Checks judge Write show log before after = WritesPart judge show log before after
+Checks judge Memory show log before after = Unjudged show log before after
+Checks judge Words show log before after = ⊥
+Checks judge Read show log before after = ⊥
+Checks judge Long show log before after = ⊥

@@ -2,9 +2,9 @@ pub mod Checked
 pub mod Fetches
 pub mod Files
 pub mod Finding
+pub mod Process
 pub mod Reply
 pub mod Run
-pub mod ScanLines
 pub mod Session
 pub mod ShowFile
 pub mod ShowLines

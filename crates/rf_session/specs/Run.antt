@@ -2,6 +2,7 @@
 use Rattle.std.specs.Prelude.{◌≡◌, ◌==◌, ◌||◌, ◌+◌, ◌-◌, ◌^◌, ◌≤◌, ◌⊎◌, min, not, ℕ, Bool, false, if◌then◌else◌, List, [], ◌∷◌, length, take, slice_index, codes, filter, count_by}
 use Rattle.std.specs.List.{list_any}
 use Rattle.std.specs.Str.{bytes_eq}
+use Rattle.std.specs.declared.option.Option.{Option}
 use Rattle.std.specs.Io.KnownBytes.{Appends}
 use Rattle.rf_base.specs.Script.{Line, short, long}
 use Rattle.rf_session.specs.declared.machine.Stop.{Stop}
@@ -73,6 +74,19 @@ pub record Replied {M : Type 0} (step : Fetched → Reply → M → Type 0) (new
   pub kept : KeptCounts before after (fetched ∷ [])
   pub wrote : Appends before.written after.written (text_of reply)
   pub refuses : refusal ≡ is_refusal reply
+
+-- The sink gained such a reply, and `refusal` says whether it is a refusal.
+pub record Writes (replies : Reply → Type 0) (before after : Option (List ℕ)) (refusal : Bool) : Type 0 where
+  pub reply : Reply
+  pub took : replies reply
+  pub wrote : Appends before after (text_of reply)
+  pub refuses : refusal ≡ is_refusal reply
+
+-- The sink gained such a part of a reply, or nothing.
+pub record WritesPart (parts : List ℕ → Type 0) (before after : Option (List ℕ)) : Type 0 where
+  pub part : List ℕ
+  pub may : (part ≡ []) ⊎ parts part
+  pub wrote : Appends before after part
 
 -- A reply was cut short, or never begun.
 pub record IsCut (cuts : Fetched → List ℕ → Type 0) (before after : Outside) : Type 0 where

@@ -1,5 +1,5 @@
 -- What the lines of a show file make.
-use Rattle.std.specs.Prelude.{◌≡◌, ◌+◌, ℕ, Bool, List, [], ◌∷◌, ◌++◌, length, Option, Some, None, Result, Ok, Err, if◌then◌else◌}
+use Rattle.std.specs.Prelude.{◌≡◌, ◌+◌, ℕ, Bool, List, [], ◌∷◌, ◌++◌, length, Option, None, Result, Ok, Err, if◌then◌else◌}
 use Rattle.std.specs.List.{list_any}
 use Rattle.rf_base.specs.Script.{Line, short, long}
 use Rattle.rf_show.specs.After.{after}
@@ -21,7 +21,7 @@ use Rattle.rf_session.specs.Fetches.{Fetched, fetch_of, Got, Outside, Brought, K
 use Rattle.rf_session.specs.Files.{hot_in, profiles_in}
 use Rattle.rf_session.specs.Reply.{code_of}
 use Rattle.rf_session.specs.Run.{is_passed}
-use Rattle.rf_session.specs.Shows.{file_of, profiles_edit, scan_edit}
+use Rattle.rf_session.specs.Shows.{file_of, profiles_edit, said_file, scan_edit}
 use Rattle.rf_session.specs.Unfetched.{is_file}
 
 -- Of a file that gives nothing: the shelf failed at it, or its line is refused as E10.
@@ -40,13 +40,10 @@ abbrev pub made_by : ShowData → Result Edit FileFault → Result ShowData Line
 made_by show (Ok edit) = made (after show edit)
 made_by show (Err why) = Err (of_file_fault why)
 
-abbrev pub profiles_read : ShowData → Got → Result ShowData LineFault
-profiles_read show got = made_by show (profiles_edit (profiles_in got))
-
 -- What a command makes of a show, where this came of the file that it names. A command that is no edit is refused as E1.
 abbrev pub command_read : ShowData → Command → Got → Result ShowData LineFault
 command_read show (command.Change edit) got = made (after show edit)
-command_read show (command.Profiles file) got = profiles_read show got
+command_read show (command.Profiles file) got = made_by show (profiles_edit (profiles_in got))
 command_read show (command.Scan file zone threshold width sep) got = made_by show (scan_edit file zone threshold width sep (hot_in sep threshold got))
 command_read show _ got = Err (Refused code.UnknownLine)
 
@@ -59,10 +56,6 @@ said_read show (Err unknown) got = Err (Refused code.UnknownLine)
 abbrev pub line_read : ShowData → Line → Got → Result ShowData LineFault
 line_read show (short bytes) got = if is_passed (short bytes) then Ok show else said_read show (command_of bytes) got
 line_read show long got = Err (Refused code.LongLine)
-
-abbrev pub said_file : Result Command UnknownLine → Option (List ℕ)
-said_file (Ok command) = file_of command
-said_file (Err unknown) = None
 
 -- the file that a line names
 abbrev pub line_file : Line → Option (List ℕ)

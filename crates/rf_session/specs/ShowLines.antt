@@ -1,5 +1,5 @@
 -- What the reading of the next line of a show file says.
-use Rattle.std.specs.Prelude.{◌≡◌, ℕ, List, [], Result, Ok, Err}
+use Rattle.std.specs.Prelude.{◌≡◌, [], Result, Ok, Err}
 use Rattle.rf_base.specs.Input.{Input, TakesLine, lines_of}
 use Rattle.rf_base.specs.Script.{Line}
 use Rattle.rf_show.specs.Show.{ShowData}

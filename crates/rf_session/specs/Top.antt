@@ -3,7 +3,7 @@ use Rattle.std.specs.Prelude.{◌≡◌, ◌≤◌, ◌&&◌, not, ℕ, Bool, tr
 use Rattle.rf_base.specs.Input.{Input, is_long, lines_of}
 use Rattle.rf_base.specs.Script.{ended_lines}
 use Rattle.rf_base.specs.declared.status.Status.{Status}
-use Rattle.rf_base.specs.declared.status.Status.TheVariants.{Done, Refused, Words, Read, Write, Shelf, Memory, Long}
+use Rattle.rf_base.specs.declared.status.Status.TheVariants.{Read}
 use Rattle.rf_session.specs.declared.machine.Stop.{Stop}
 use Rattle.rf_session.specs.Fetches.{Outside}
 use Rattle.rf_session.specs.Run.{answered, quits, Step, Cut, Answered}
@@ -56,17 +56,6 @@ pub record RepliesToSome (stop : Stop) (before after : Outside) (bytes : List �
 -- the script was read to its end or to `quit`
 abbrev pub IsReadThrough : List ℕ → Type 0
 IsReadThrough bytes = (is_long (script bytes) && not (quits (lines_of (script bytes)))) ≡ false
-
--- all lines were answered, or memory was not found
-abbrev pub EndsWell : Status → Type 0
-EndsWell Done = Unit {0}
-EndsWell Refused = Unit {0}
-EndsWell Memory = Unit {0}
-EndsWell Words = ⊥
-EndsWell Read = ⊥
-EndsWell Write = ⊥
-EndsWell Shelf = ⊥
-EndsWell Long = ⊥
 
 -- The session ran from the first history over the script, and these bytes are left in its source.
 pub record Serves (status : Status) (before after : Outside) (bytes left : List ℕ) : Type 0 where

@@ -39,7 +39,7 @@ pub(crate) fn check<F: Shelf, O: Sink>(
     shelf: &mut F,
     output: &mut O,
 ) -> Status
-    ensures checks { spec.Checks result show.now log.now
+    ensures checks { spec.Checks spec.judged result show.now log.now
         (outside (O.contents output.old) (F.file shelf.old) (F.faults shelf.old))
         (outside (O.contents output.new) (F.file shelf.new) (F.faults shelf.new)) }
     ensures later { O.faults output.old ≤ O.faults output.new }
@@ -59,7 +59,7 @@ fn find<F: Shelf>(
     log: &str,
     shelf: &mut F,
 ) -> Result<Finding, CheckFault>
-    ensures found { spec.IfFound result (spec.Found show.now log.now
+    ensures found { spec.IfFound result (spec.Found spec.judged show.now log.now
         (shelf_alone (F.file shelf.old) (F.faults shelf.old)) (shelf_alone (F.file shelf.new) (F.faults shelf.new))) }
     ensures others { spec.KeepsOthers show.now log.now
         (shelf_alone (F.file shelf.old) (F.faults shelf.old)) (shelf_alone (F.file shelf.new) (F.faults shelf.new)) }
@@ -80,7 +80,7 @@ fn find_over<F: Shelf>(
     shelf: &mut F,
 ) -> Result<Finding, CheckFault>
     requires { length bytes.items ≤ file_limit }
-    ensures found { spec.IfFound result (spec.FoundOver bytes.items log.now
+    ensures found { spec.IfFound result (spec.FoundOver spec.judged bytes.items log.now
         (shelf_alone (F.file shelf.old) (F.faults shelf.old)) (shelf_alone (F.file shelf.new) (F.faults shelf.new))) }
     ensures others { (name : List ℕ) → bytes_eq log.now name ≡ false → are_naming name (lines_of (script bytes.items)) ≡ false →
         F.faults shelf.new name ≡ F.faults shelf.old name }
@@ -100,7 +100,7 @@ fn find_in_log<F: Shelf>(
     log: &str,
     shelf: &mut F,
 ) -> Result<Finding, CheckFault>
-    ensures found { spec.IfFound result (spec.FoundInLog show.now log.now
+    ensures found { spec.IfFound result (spec.FoundInLog spec.judged show.now log.now
         (shelf_alone (F.file shelf.old) (F.faults shelf.old)) (shelf_alone (F.file shelf.new) (F.faults shelf.new))) }
     ensures others { (name : List ℕ) → bytes_eq log.now name ≡ false → F.faults shelf.new name ≡ F.faults shelf.old name }
 {
@@ -115,7 +115,7 @@ fn find_in_log<F: Shelf>(
 /// What a check finds in the text of a log.
 fn judge(alloc: Global, show: &Show, bytes: &[u8]) -> Result<Finding, CheckFault>
     requires { length bytes.now ≤ spec.log_limit }
-    ensures { spec.IfFound result (λ end. end ≡ spec.finding_of show.now (log_of bytes.now)) }
+    ensures { spec.IfFound result (λ end. end ≡ spec.finding_of spec.judged show.now (log_of bytes.now)) }
 {
     match read_log(alloc, bytes) {
         Ok(log) => match judge_log(alloc, show, &log) {

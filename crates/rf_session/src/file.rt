@@ -1,17 +1,14 @@
 //! Files that lines name, fetched from the shelf.
 
-ghost use Rattle.std.specs.Prelude.{◌≡◌, ◌≢◌, ◌≤◌, ◌∷◌, [], ℕ, List, IfOk, IfErr, IsTrue, Ok, Err};
+ghost use Rattle.std.specs.Prelude.{◌≡◌, ◌≢◌, ◌≤◌, ◌∷◌, [], ℕ, List, IfOk, IfErr, Err};
 ghost use Rattle.std.specs.declared.option.Option.{Option};
-ghost use Rattle.rf_show.specs.After.{is_edit};
-ghost use Rattle.rf_show.specs.declared.edit.Edit.{Edit};
+ghost use Rattle.rf_base.specs.declared.decimal.Decimal.{Decimal};
+ghost use Rattle.rf_exclusions.specs.declared.scan_set.Sep.{Sep};
 ghost use Rattle.rf_session.specs.Fetches.{outside, of_file, found, got_of, Brought, BroughtWithin};
 ghost use Rattle.rf_session.specs.Files as spec;
 
 use crate::file_fault::FileFault;
-use rf_base::{Decimal, Fetch, Items, NoMemory, Shelf};
-use rf_exclusions::{HotPoints, Sep};
-use rf_profiles::{Profile, read_profiles};
-use rf_scan::{hot_points, read_scan};
+use rf_base::{Fetch, NoMemory, Shelf};
 use std::alloc::Global;
 
 /// The largest file that a line may name, in bytes.
@@ -30,7 +27,7 @@ pub(crate) enum File {
 
 impl File {
     /// Its bytes, or why there are none.
-    fn bytes(self) -> Result<Vec<u8>, FileFault>
+    pub(crate) fn bytes(self) -> Result<Vec<u8>, FileFault>
         ensures found { IfOk result (λ bytes. got_of self ≡ found bytes.items) }
         ensures profiles { IfErr result (λ e. spec.profiles_in (got_of self) ≡ Err e) }
         ensures hot { IfErr result (λ e. (sep : Sep) (threshold : Decimal) → spec.hot_in sep threshold (got_of self) ≡ Err e) }
@@ -76,47 +73,5 @@ pub(crate) fn fetch_within<F: Shelf>(
         Err(Fetch::Large) => Ok(File::TooLarge),
         Err(Fetch::Failed) => Ok(File::Fault),
         Err(Fetch::Memory) => Err(NoMemory),
-    }
-}
-
-/// The profiles of a file, in the order of their keys.
-pub(crate) fn profiles_in(alloc: Global, file: File) -> Result<Items<Profile>, FileFault>
-    requires { spec.IsSmall (got_of file) }
-    ensures profiles { IfOk result (λ list. spec.profiles_in (got_of file) ≡ Ok list) }
-    ensures fault { IfErr result (λ e. e ≢ FileFault.Memory → spec.profiles_in (got_of file) ≡ Err e) }
-    ensures edit { IfOk result (λ list. IsTrue (is_edit (Edit.AddProfiles list))) }
-{
-    let bytes = match file.bytes() {
-        Ok(bytes) => bytes,
-        Err(fault) => return Err(fault),
-    };
-    match read_profiles(alloc, bytes.as_slice()) {
-        Ok(list) => Ok(Items::from_vec(list)),
-        Err(fault) => Err(FileFault::from(fault)),
-    }
-}
-
-/// The hot points of a scan file, of which the level is at or above the threshold.
-pub(crate) fn hot_in(
-    alloc: Global,
-    file: File,
-    sep: Sep,
-    threshold: Decimal,
-) -> Result<HotPoints, FileFault>
-    requires { spec.IsSmall (got_of file) }
-    ensures hot { IfOk result (λ hot. spec.hot_in sep threshold (got_of file) ≡ Ok hot) }
-    ensures fault { IfErr result (λ e. e ≢ FileFault.Memory → spec.hot_in sep threshold (got_of file) ≡ Err e) }
-{
-    let bytes = match file.bytes() {
-        Ok(bytes) => bytes,
-        Err(fault) => return Err(fault),
-    };
-    let points = match read_scan(alloc, bytes.as_slice(), sep) {
-        Ok(points) => points,
-        Err(fault) => return Err(FileFault::from(fault)),
-    };
-    match hot_points(alloc, points.as_slice(), threshold) {
-        Ok(hot) => Ok(hot),
-        Err(NoMemory) => Err(FileFault::Memory),
     }
 }

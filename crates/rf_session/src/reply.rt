@@ -41,43 +41,38 @@ pub enum Code {
 
 impl Code {
     /// The reply line of the refusal.
-    pub fn text(self) -> &'static [u8]
+    fn line(self) -> &'static str
         ensures { result.now ≡ spec.refusal_text self }
     {
         match self {
-            Code::UnknownLine => b"error E1\n",
-            Code::Unknown => b"error E2\n",
-            Code::Taken => b"error E3\n",
-            Code::Number => b"error E4\n",
-            Code::InUse => b"error E5\n",
-            Code::NoStep => b"error E6\n",
-            Code::NoFrequency => b"error E7\n",
-            Code::Locked => b"error E8\n",
-            Code::Full => b"error E9\n",
-            Code::BadFile => b"error E10\n",
-            Code::ShelfFault => b"error E11\n",
-            Code::LongLine => b"error E12\n",
+            Code::UnknownLine => "error E1\n",
+            Code::Unknown => "error E2\n",
+            Code::Taken => "error E3\n",
+            Code::Number => "error E4\n",
+            Code::InUse => "error E5\n",
+            Code::NoStep => "error E6\n",
+            Code::NoFrequency => "error E7\n",
+            Code::Locked => "error E8\n",
+            Code::Full => "error E9\n",
+            Code::BadFile => "error E10\n",
+            Code::ShelfFault => "error E11\n",
+            Code::LongLine => "error E12\n",
         }
     }
 
-    /// The word of the code.
+    /// The reply line of the refusal, as bytes.
+    pub fn text(self) -> &'static [u8]
+        ensures { result.now ≡ spec.refusal_text self }
+    {
+        self.line().as_bytes()
+    }
+
+    /// The word of the code, which its reply line has between `error ` and its line feed.
     pub fn word(self) -> &'static str
         ensures { result.now ≡ spec.code_word self }
     {
-        match self {
-            Code::UnknownLine => "E1",
-            Code::Unknown => "E2",
-            Code::Taken => "E3",
-            Code::Number => "E4",
-            Code::InUse => "E5",
-            Code::NoStep => "E6",
-            Code::NoFrequency => "E7",
-            Code::Locked => "E8",
-            Code::Full => "E9",
-            Code::BadFile => "E10",
-            Code::ShelfFault => "E11",
-            Code::LongLine => "E12",
-        }
+        let line = self.line();
+        &line["error ".len()..line.len() - 1]
     }
 }
 

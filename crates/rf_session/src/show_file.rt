@@ -1,25 +1,23 @@
 //! Show files: each line is an edit of the show that they make.
 
-ghost use Rattle.std.specs.Prelude.{◌≡◌, ◌≤◌, ◌<◌, ℕ, List, Ok, false, length, IsTrue};
+ghost use Rattle.std.specs.Prelude.{◌≡◌, ◌≤◌, ◌<◌, ℕ, List, Ok, false, length, IfOk, IsTrue};
 ghost use Rattle.rf_base.specs.Input.{lines_of};
 ghost use Rattle.rf_base.specs.Reader.{input_of, limit_of, Reads};
 ghost use Rattle.rf_base.specs.Script.{short};
 ghost use Rattle.rf_base.specs.Told.{WhereTold};
 ghost use Rattle.rf_show.specs.After.{after, is_edit};
 ghost use Rattle.rf_text.specs.Commands.{IsAskable};
-ghost use Rattle.rf_session.specs.Fetches.{file_limit, got_of, shelf_alone, Obeyed};
-ghost use Rattle.rf_session.specs.Files.{IsSmall};
-ghost use Rattle.rf_session.specs.ScanLines.{scan_command};
+ghost use Rattle.rf_session.specs.Fetches.{file_limit, shelf_alone, Obeyed};
 ghost use Rattle.rf_session.specs.ShowFile as spec;
 ghost use Rattle.rf_session.specs.ShowLines.{Takes};
 ghost use Rattle.rf_session.specs.Shows.{file_of};
 ghost use Rattle.rf_session.specs.Top.{script};
 ghost use Rattle.rf_session.specs.Unfetched.{is_file};
 
-use crate::file::{File, fetch_file, hot_in, profiles_in};
+use crate::file::fetch_file;
+use crate::file_edit::{profiles_edit, scan_edit};
 use crate::file_fault::FileFault;
 use crate::reply::Code;
-use crate::scan_line::ScanLine;
 use crate::session::is_passed;
 use rf_base::{CleanSource, LineReader, Next, NoMemory, Shelf, Source};
 use rf_show::{Edit, Refusal, Show};
@@ -169,7 +167,7 @@ fn apply_command<F: Shelf>(
             let Ok(got) = fetch_file(alloc, shelf, file.text()) else {
                 return Err(LineFault::Memory);
             };
-            add_profiles(alloc, show, got)
+            make_by(show, profiles_edit(alloc, got))
         }
         Command::Scan {
             file,
@@ -181,54 +179,20 @@ fn apply_command<F: Shelf>(
             let Ok(got) = fetch_file(alloc, shelf, file.text()) else {
                 return Err(LineFault::Memory);
             };
-            let scan = ScanLine {
-                file,
-                zone,
-                threshold,
-                width,
-                sep,
-            };
-            add_scan(alloc, show, scan, got)
+            let edit = scan_edit(alloc, file, zone, threshold, width, sep, got);
+            make_by(show, edit)
         }
         _ => Err(LineFault::Refused(Code::UnknownLine)),
     }
 }
 
-/// Adds the profiles of a file.
-fn add_profiles(alloc: Global, show: &mut Show, file: File) -> Result<(), LineFault>
-    requires { IsSmall (got_of file) }
-    ensures { spec.IfLine result show.new (λ read. read ≡ spec.profiles_read show.old (got_of file)) }
+/// Makes the edit of a file, where the file gives one.
+fn make_by(show: &mut Show, edit: Result<Edit, FileFault>) -> Result<(), LineFault>
+    requires { IfOk edit (λ edit. IsTrue (is_edit edit)) }
+    ensures { spec.IfLine result show.new (λ read. read ≡ spec.made_by show.old edit) }
 {
-    match profiles_in(alloc, file) {
-        Ok(list) => make(show, Edit::AddProfiles { list }),
-        Err(fault) => Err(LineFault::from(fault)),
-    }
-}
-
-/// Adds a scan with the hot points of a file.
-fn add_scan(alloc: Global, show: &mut Show, scan: ScanLine, file: File) -> Result<(), LineFault>
-    requires { IsSmall (got_of file) }
-    ensures { spec.IfLine result show.new (λ read. read ≡ spec.command_read show.old (scan_command scan) (got_of file)) }
-{
-    let ScanLine {
-        file: name,
-        zone,
-        threshold,
-        width,
-        sep,
-    } = scan;
-    match hot_in(alloc, file, sep, threshold) {
-        Ok(hot) => make(
-            show,
-            Edit::AddScan {
-                file: name,
-                sep,
-                zone,
-                threshold,
-                width,
-                hot,
-            },
-        ),
+    match edit {
+        Ok(edit) => make(show, edit),
         Err(fault) => Err(LineFault::from(fault)),
     }
 }

@@ -1,13 +1,12 @@
 //! All that the program does.
 
-ghost use Rattle.std.specs.Prelude.{◌≡◌, ◌≤◌, ℕ, List, Bool, Some, None, length, map, string_bytes, IsSomeAnd, if◌then◌else◌};
+ghost use Rattle.std.specs.Prelude.{◌≡◌, ◌≤◌, Bool, false, Some, map, string_bytes, if◌then◌else◌};
 ghost use Rattle.rf_base.specs.Cause.{Rose};
 ghost use Rattle.rf_base.specs.Told.{WhereTold};
-ghost use Rattle.rf_session.specs.declared.machine.Stop.{Stop};
-ghost use Rattle.rf_session.specs.Checked.{AsksFor, CheckFails, Checks};
 ghost use Rattle.rf_session.specs.Fetches.{outside};
-ghost use Rattle.rf_session.specs.Top.{script_limit, Headline, RepliesToTaken, RepliesToAll, RepliesToSome, IsReadThrough, EndsWell, Serves};
-ghost use Rattle.rf_session.specs.Words.{asks, Usage};
+ghost use Rattle.rf_session.specs.Process.{fetches, reads_input, world, Ends, EndsWell, IsUndisturbed};
+ghost use Rattle.rf_session.specs.Top.{Headline, Serves};
+ghost use Rattle.rf_session.specs.Words.{asks};
 ghost use Rattle.rf_words.specs.Words.{HasPlain, IsPlain};
 
 use crate::check::check;
@@ -53,48 +52,58 @@ pub fn run<I: Source, F: Shelf, O: Sink>(
         WhereTold (I.left input.old) (I.left input.new) (λ bytes _. Headline
         (outside (O.contents output.old) (F.file shelf.old) (F.faults shelf.old))
         (outside (O.contents output.new) (F.file shelf.new) (F.faults shelf.new)) bytes refusal) }
-    ensures read_through { asks words.now ≡ Some Asked.Session → (refusal : Bool) → result ≡ (if refusal then Status.Refused else Status.Done) →
-        WhereTold (I.left input.old) (I.left input.new) (λ bytes _. IsReadThrough bytes) }
-    ensures long { result ≡ Status.Long →
-        WhereTold (I.left input.old) (I.left input.new) (λ bytes _. RepliesToAll
-        (outside (O.contents output.old) (F.file shelf.old) (F.faults shelf.old))
-        (outside (O.contents output.new) (F.file shelf.new) (F.faults shelf.new)) bytes) }
-    ensures read { result ≡ Status.Read →
-        WhereTold (I.left input.old) (I.left input.new) (λ bytes left. RepliesToTaken
-        (outside (O.contents output.old) (F.file shelf.old) (F.faults shelf.old))
-        (outside (O.contents output.new) (F.file shelf.new) (F.faults shelf.new)) bytes left) }
-    ensures write { asks words.now ≡ Some Asked.Session → result ≡ Status.Write →
-        WhereTold (I.left input.old) (I.left input.new) (λ bytes _. RepliesToSome Stop.Write
-        (outside (O.contents output.old) (F.file shelf.old) (F.faults shelf.old))
-        (outside (O.contents output.new) (F.file shelf.new) (F.faults shelf.new)) bytes) }
-    ensures memory { asks words.now ≡ Some Asked.Session → result ≡ Status.Memory →
-        WhereTold (I.left input.old) (I.left input.new) (λ bytes _. RepliesToSome Stop.Memory
-        (outside (O.contents output.old) (F.file shelf.old) (F.faults shelf.old))
-        (outside (O.contents output.new) (F.file shelf.new) (F.faults shelf.new)) bytes) }
-    ensures read_cause { result ≡ Status.Read → Rose (I.faults input.old) (I.faults input.new) }
-    ensures write_cause { result ≡ Status.Write → Rose (O.faults output.old) (O.faults output.new) }
-    ensures shelf_cause { result ≡ Status.Shelf → CheckFails (asks words.now)
-        (outside (O.contents output.old) (F.file shelf.old) (F.faults shelf.old))
-        (outside (O.contents output.new) (F.file shelf.new) (F.faults shelf.new)) }
-    ensures checks { (show : List ℕ) (log : List ℕ) → asks words.now ≡ Some (Asked.Check show log) → Checks result show log
-        (outside (O.contents output.old) (F.file shelf.old) (F.faults shelf.old))
-        (outside (O.contents output.new) (F.file shelf.new) (F.faults shelf.new)) }
-    ensures check_input { (show : List ℕ) (log : List ℕ) → asks words.now ≡ Some (Asked.Check show log) → input.new ≡ input.old }
-    ensures check_complete { (show : List ℕ) (log : List ℕ) → asks words.now ≡ Some (Asked.Check show log) →
-        ¬ Rose (O.faults output.old) (O.faults output.new) →
-        ((name : List ℕ) → AsksFor show log
-        (outside (O.contents output.old) (F.file shelf.old) (F.faults shelf.old))
-        (outside (O.contents output.new) (F.file shelf.new) (F.faults shelf.new)) name →
-        ¬ Rose (F.faults shelf.old name) (F.faults shelf.new name)) → EndsWell result }
-    ensures words_cause { result ≡ Status.Words → asks words.now ≡ None }
+    ensures done { result ≡ Status.Done → Ends (asks words.now) Status.Done
+        (world (I.left input.old) (I.faults input.old) (outside (O.contents output.old) (F.file shelf.old) (F.faults shelf.old)) (O.faults output.old))
+        (world (I.left input.new) (I.faults input.new) (outside (O.contents output.new) (F.file shelf.new) (F.faults shelf.new)) (O.faults output.new)) }
+    ensures refused { result ≡ Status.Refused → Ends (asks words.now) Status.Refused
+        (world (I.left input.old) (I.faults input.old) (outside (O.contents output.old) (F.file shelf.old) (F.faults shelf.old)) (O.faults output.old))
+        (world (I.left input.new) (I.faults input.new) (outside (O.contents output.new) (F.file shelf.new) (F.faults shelf.new)) (O.faults output.new)) }
+    ensures words { result ≡ Status.Words → Ends (asks words.now) Status.Words
+        (world (I.left input.old) (I.faults input.old) (outside (O.contents output.old) (F.file shelf.old) (F.faults shelf.old)) (O.faults output.old))
+        (world (I.left input.new) (I.faults input.new) (outside (O.contents output.new) (F.file shelf.new) (F.faults shelf.new)) (O.faults output.new)) }
+    ensures read { result ≡ Status.Read → Ends (asks words.now) Status.Read
+        (world (I.left input.old) (I.faults input.old) (outside (O.contents output.old) (F.file shelf.old) (F.faults shelf.old)) (O.faults output.old))
+        (world (I.left input.new) (I.faults input.new) (outside (O.contents output.new) (F.file shelf.new) (F.faults shelf.new)) (O.faults output.new)) }
+    ensures write { result ≡ Status.Write → Ends (asks words.now) Status.Write
+        (world (I.left input.old) (I.faults input.old) (outside (O.contents output.old) (F.file shelf.old) (F.faults shelf.old)) (O.faults output.old))
+        (world (I.left input.new) (I.faults input.new) (outside (O.contents output.new) (F.file shelf.new) (F.faults shelf.new)) (O.faults output.new)) }
+    ensures shelf { result ≡ Status.Shelf → Ends (asks words.now) Status.Shelf
+        (world (I.left input.old) (I.faults input.old) (outside (O.contents output.old) (F.file shelf.old) (F.faults shelf.old)) (O.faults output.old))
+        (world (I.left input.new) (I.faults input.new) (outside (O.contents output.new) (F.file shelf.new) (F.faults shelf.new)) (O.faults output.new)) }
+    ensures memory { result ≡ Status.Memory → Ends (asks words.now) Status.Memory
+        (world (I.left input.old) (I.faults input.old) (outside (O.contents output.old) (F.file shelf.old) (F.faults shelf.old)) (O.faults output.old))
+        (world (I.left input.new) (I.faults input.new) (outside (O.contents output.new) (F.file shelf.new) (F.faults shelf.new)) (O.faults output.new)) }
+    ensures long { result ≡ Status.Long → Ends (asks words.now) Status.Long
+        (world (I.left input.old) (I.faults input.old) (outside (O.contents output.old) (F.file shelf.old) (F.faults shelf.old)) (O.faults output.old))
+        (world (I.left input.new) (I.faults input.new) (outside (O.contents output.new) (F.file shelf.new) (F.faults shelf.new)) (O.faults output.new)) }
+    ensures complete { IsUndisturbed (asks words.now)
+        (world (I.left input.old) (I.faults input.old) (outside (O.contents output.old) (F.file shelf.old) (F.faults shelf.old)) (O.faults output.old))
+        (world (I.left input.new) (I.faults input.new) (outside (O.contents output.new) (F.file shelf.new) (F.faults shelf.new)) (O.faults output.new)) → EndsWell (asks words.now) result }
     ensures plain_words { (asked : Asked) → IsPlain (map string_bytes words.now) asked → asks words.now ≡ Some asked }
     ensures other_words { (asked : Asked) → asks words.now ≡ Some asked → HasPlain asked }
-    ensures usage { asks words.now ≡ None → Usage result (O.contents output.old) (O.contents output.new) }
-    ensures usage_input { asks words.now ≡ None → input.new ≡ input.old }
-    ensures usage_shelf { asks words.now ≡ None → shelf.new ≡ shelf.old }
-    ensures complete { asks words.now ≡ Some Asked.Session →
-        ¬ Rose (I.faults input.old) (I.faults input.new) → ¬ Rose (O.faults output.old) (O.faults output.new) →
-        IsSomeAnd (I.left input.old) (λ bytes. length bytes ≤ script_limit) → EndsWell result }
+    ensures untouched_input { reads_input (asks words.now) ≡ false → input.new ≡ input.old }
+    ensures untouched_shelf { fetches (asks words.now) ≡ false → shelf.new ≡ shelf.old }
+    ensures input_later { I.faults input.old ≤ I.faults input.new }
+    ensures output_later { O.faults output.old ≤ O.faults output.new }
+{
+    do_asked(alloc, words, input, shelf, output)
+}
+
+/// Does what the words ask for.
+fn do_asked<I: Source, F: Shelf, O: Sink>(
+    alloc: Global,
+    words: &[String],
+    input: &mut I,
+    shelf: &mut F,
+    output: &mut O,
+) -> Status
+    ensures ends { Ends (asks words.now) result
+        (world (I.left input.old) (I.faults input.old) (outside (O.contents output.old) (F.file shelf.old) (F.faults shelf.old)) (O.faults output.old))
+        (world (I.left input.new) (I.faults input.new) (outside (O.contents output.new) (F.file shelf.new) (F.faults shelf.new)) (O.faults output.new)) }
+    ensures plain_words { (asked : Asked) → IsPlain (map string_bytes words.now) asked → asks words.now ≡ Some asked }
+    ensures other_words { (asked : Asked) → asks words.now ≡ Some asked → HasPlain asked }
+    ensures untouched_input { reads_input (asks words.now) ≡ false → input.new ≡ input.old }
+    ensures untouched_shelf { fetches (asks words.now) ≡ false → shelf.new ≡ shelf.old }
     ensures input_later { I.faults input.old ≤ I.faults input.new }
     ensures output_later { O.faults output.old ≤ O.faults output.new }
 {

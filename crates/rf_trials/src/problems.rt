@@ -47,14 +47,7 @@ fn add(alloc: Global, problem: &mut Problem, row: &Row) -> Result<(), NoMemory> 
     let reach = if row.reaches_all { 15 } else { heard };
     let freqs = vec![in alloc; f, g, h, i]?;
     let allowed = vec![in alloc; p, q, r, s]?;
-    problem.add(
-        freqs,
-        allowed,
-        row.spacing,
-        &[j, k, l, m, n],
-        heard,
-        reach,
-    )
+    problem.add(freqs, allowed, row.spacing, &[j, k, l, m, n], heard, reach)
 }
 
 /// The problem of at most four carriers, all of which are on at once.
@@ -188,7 +181,10 @@ fn together(alloc: Global) -> Result<(), Broken> {
 fn far_together(alloc: Global) -> Result<(), Broken> {
     let problem = far_ones(alloc)?;
     hold(&[
-        (joined(&problem, 3) == Some(true), "those that hear each other"),
+        (
+            joined(&problem, 3) == Some(true),
+            "those that hear each other",
+        ),
         (joined(&problem, 6) == Some(true), "the last two do"),
         (
             joined(&problem, 5) == Some(true),

@@ -189,9 +189,7 @@ fn some_numbers(chance: &mut Chance) -> [u32; Profile::NUMBERS] {
     let m2t5 = chance.width(3);
     let m3t5 = chance.width(3);
     let m2t7 = chance.width(3);
-    [
-        from, to, step, spacing, 25, m2t3, m3t3, m2t5, m3t5, m2t7,
-    ]
+    [from, to, step, spacing, 25, m2t3, m3t3, m2t5, m3t5, m2t7]
 }
 
 /// Profiles `P` and `Q`, and a zone `far` that may be coupled with `main`, also far.

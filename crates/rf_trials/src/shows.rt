@@ -18,7 +18,11 @@ pub(crate) fn change(show: &mut Show, edit: Edit) -> Result<(), Broken>
     }
 }
 
-pub(crate) fn add_profile(show: &mut Show, word: &[u8], numbers: [u32; Profile::NUMBERS]) -> Result<(), Broken> {
+pub(crate) fn add_profile(
+    show: &mut Show,
+    word: &[u8],
+    numbers: [u32; Profile::NUMBERS],
+) -> Result<(), Broken> {
     let name = Name::read(word).ok_or("a name")?;
     change(show, Edit::AddProfile { name, numbers })
 }

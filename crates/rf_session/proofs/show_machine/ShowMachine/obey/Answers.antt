@@ -6,11 +6,15 @@ use Rattle.rf_session.proofs.show_machine.ShowMachine.obey.Goals as goal
 pub returns-in_ok-got-in-Profiles-clause-obeyed : goal.returns-in_ok-got-in-Profiles-clause-obeyed
 returns-in_ok-got-in-Profiles-clause-obeyed g c =
     let got = c.in_ok-got-in-Profiles in
-    obeyed_by c.add_profiles.result _ _ c.args.command (Profiles c.in-Profiles.file) _ _ _ _ c.in-Profiles.is refl refl c.add_profiles.ensures.reply c.add_profiles.ensures.history
+    let edit = c.profiles_edit-edit in
+    obeyed_by c.change_by.result _ _ c.args.command (Profiles c.in-Profiles.file) _ _ edit.result _ _ _ c.in-Profiles.is refl refl
+    edit.ensures.edit edit.ensures.fault c.change_by.ensures.memory c.change_by.ensures.answer c.change_by.ensures.history
     (rw c.text.ensures.value at (got.ensures.brought None)) (rw c.text.ensures.value at got.ensures.kept)
 
 pub returns-in_ok-got-in-Scan-clause-obeyed : goal.returns-in_ok-got-in-Scan-clause-obeyed
 returns-in_ok-got-in-Scan-clause-obeyed g c =
     let got = c.in_ok-got-in-Scan in
-    obeyed_by c.add_scan.result _ _ c.args.command _ _ _ _ _ c.in-Scan.is refl refl c.add_scan.ensures.reply c.add_scan.ensures.history
+    let edit = c.scan_edit-edit in
+    obeyed_by c.change_by-in-Scan.result _ _ c.args.command _ _ _ edit.result _ _ _ c.in-Scan.is refl refl
+    edit.ensures.edit edit.ensures.fault c.change_by-in-Scan.ensures.memory c.change_by-in-Scan.ensures.answer c.change_by-in-Scan.ensures.history
     (rw c.text-in-Scan.ensures.value at (got.ensures.brought None)) (rw c.text-in-Scan.ensures.value at got.ensures.kept)

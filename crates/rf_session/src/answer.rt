@@ -1,0 +1,52 @@
+//! What a command is answered.
+
+ghost use Rattle.std.specs.Prelude.{◌≡◌};
+ghost use Rattle.rf_session.specs.Shows as spec;
+
+use crate::reply::{Code, Reply};
+use rf_base::Items;
+use rf_search::MAX_BUDGET;
+
+/// What a command is answered.
+#[derive(Drop)]
+pub enum Answer {
+    /// This reply.
+    Reply(Reply),
+    /// What a search of the show writes that has at most `budget` branchings. Where it `places`, a plan is applied as one edit.
+    Search { budget: u32, places: bool },
+}
+
+impl Answer {
+    /// It is done.
+    pub(crate) fn accepted() -> Answer
+        ensures { result ≡ Answer.Reply Reply.Accepted }
+    {
+        Answer::Reply(Reply::Accepted)
+    }
+
+    /// It asks for this text.
+    pub(crate) fn text(text: Vec<u8>) -> Answer
+        ensures { result ≡ Answer.Reply (Reply.Text text.items) }
+    {
+        Answer::Reply(Reply::Text(Items::from_vec(text)))
+    }
+
+    /// It is refused.
+    pub(crate) fn refused(code: Code) -> Answer
+        ensures { result ≡ Answer.Reply (Reply.Error code) }
+    {
+        Answer::Reply(Reply::Error(code))
+    }
+
+    /// A search with this budget. It is refused where the budget is out of its range.
+    pub(crate) fn searching(budget: u32, places: bool) -> Answer
+        ensures answer { result ≡ spec.searching budget places }
+        ensures givable { spec.IsGivable result }
+    {
+        if budget <= MAX_BUDGET {
+            Answer::Search { budget, places }
+        } else {
+            Answer::refused(Code::Number)
+        }
+    }
+}
