@@ -155,6 +155,7 @@ fn made_by_calls(alloc: Global) -> Result<(), Broken> {
     ])
 }
 
+#[tactic(auto, unfolding(rf_zones::specs::Masks::has_bit))]
 fn together(alloc: Global) -> Result<(), Broken> {
     let problem = in_pairs(alloc)?;
     hold(&[
@@ -178,6 +179,7 @@ fn together(alloc: Global) -> Result<(), Broken> {
     ])
 }
 
+#[tactic(auto, unfolding(rf_zones::specs::Masks::has_bit))]
 fn far_together(alloc: Global) -> Result<(), Broken> {
     let problem = far_ones(alloc)?;
     hold(&[
@@ -197,6 +199,7 @@ fn far_together(alloc: Global) -> Result<(), Broken> {
     ])
 }
 
+#[tactic(auto, unfolding(rf_zones::specs::Masks::has_bit))]
 fn made_of_a_show(alloc: Global) -> Result<(), Broken> {
     let show = in_turns(alloc)?;
     let problem = problem_of(alloc, &show)?;
