@@ -1,6 +1,7 @@
 //! What the checker asks of a show.
 
 ghost use Rattle.std.specs.Prelude.{◌≡◌, ◌<◌, ◌≤◌, length, true, All};
+ghost use Rattle.std.specs.List.Sorted.{IsStrictlyIncreasing};
 ghost use Rattle.rf_terms.specs.Kinds.{roles_of};
 ghost use Rattle.rf_log.specs.Case as case;
 ghost use Rattle.rf_show.specs.Case.{case_of};
@@ -10,7 +11,7 @@ use rf_show::{Show, case_is_asked};
 use rf_terms::Kind;
 
 /// How many carriers there are.
-pub(crate) fn size(show: &Show) -> usize
+pub fn size(show: &Show) -> usize
     ensures value { result ≡ length (case_of show.now).carriers }
     ensures few { result ≤ most_carriers }
 {
@@ -19,9 +20,10 @@ pub(crate) fn size(show: &Show) -> usize
 }
 
 /// How many channels a carrier has.
-pub(crate) fn count(show: &Show, c: usize) -> u32
+pub fn count(show: &Show, c: usize) -> u32
     requires { c < length (case_of show.now).carriers }
     ensures value { result ≡ case.count_of (case_of show.now) c }
+    ensures rising { IsStrictlyIncreasing (case.carrier_of (case_of show.now) c).freqs }
     ensures few { result ≤ 65536 }
 {
     case_is_asked();
@@ -29,7 +31,7 @@ pub(crate) fn count(show: &Show, c: usize) -> u32
 }
 
 /// The frequency of a carrier's channel; 0 where there is none.
-pub(crate) fn freq(show: &Show, c: usize, k: u32) -> u32
+pub fn freq(show: &Show, c: usize, k: u32) -> u32
     requires { c < length (case_of show.now).carriers }
     ensures value { result ≡ case.freq_of (case_of show.now) c k }
     ensures small { result ≤ 10000000 }
@@ -44,7 +46,7 @@ pub(crate) fn freq(show: &Show, c: usize, k: u32) -> u32
 }
 
 /// Whether a carrier's channel is allowed.
-pub(crate) fn allows(show: &Show, c: usize, k: u32) -> bool
+pub fn allows(show: &Show, c: usize, k: u32) -> bool
     requires { c < length (case_of show.now).carriers }
     ensures { result ≡ case.is_allowed (case_of show.now) c k }
 {
@@ -53,7 +55,7 @@ pub(crate) fn allows(show: &Show, c: usize, k: u32) -> bool
 }
 
 /// Whether two to four carriers are together.
-pub(crate) fn are_together(show: &Show, roles: &[usize]) -> bool
+pub fn are_together(show: &Show, roles: &[usize]) -> bool
     requires known { All (λ c. c < length (case_of show.now).carriers) roles.now }
     requires distinct { case.are_distinct roles.now ≡ true }
     requires some { 2 ≤ length roles.now }
@@ -65,7 +67,7 @@ pub(crate) fn are_together(show: &Show, roles: &[usize]) -> bool
 }
 
 /// The margin of a kind between these carriers.
-pub(crate) fn margin(show: &Show, kind: Kind, roles: &[usize]) -> u32
+pub fn margin(show: &Show, kind: Kind, roles: &[usize]) -> u32
     requires full { length roles.now ≡ roles_of kind }
     requires known { All (λ c. c < length (case_of show.now).carriers) roles.now }
     ensures { result ≡ case.margin_of (case_of show.now) kind roles.now }

@@ -11,4 +11,6 @@ mod nogood;
 mod rule;
 mod walk;
 
-pub use walk::check;
+pub use asked::{allows, are_together, count, freq, margin, size};
+pub use rule::is_instance;
+pub use walk::{check, grow, lines_of};

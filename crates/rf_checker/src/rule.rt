@@ -36,7 +36,8 @@ fn is_in_order(kind: Kind, roles: &[usize]) -> bool
     }
 }
 
-fn is_instance(show: &Show, kind: Kind, roles: &[usize]) -> bool
+/// Whether the carriers in the roles are an instance of the kind.
+pub fn is_instance(show: &Show, kind: Kind, roles: &[usize]) -> bool
     requires full { length roles.now ≡ roles_of kind }
     requires known { All (λ c. c < length (case_of show.now).carriers) roles.now }
     ensures { result ≡ case.is_instance (case_of show.now) kind roles.now }

@@ -7,8 +7,9 @@ ghost use Rattle.rf_show.specs.Taken.{taken};
 ghost use Rattle.rf_show.specs.declared.refusal.Refusal.{Refusal};
 
 use rf_base::{Khz, NoMemory};
-use rf_rules::{Analysis, Products, analyse, products};
+use rf_rules::{Analysis, Products};
 use rf_show::{Edit, Refusal, Show, Undo};
+use rf_table::Table;
 use std::alloc::Global;
 use std::marker::Model;
 
@@ -21,24 +22,22 @@ pub enum EditFault {
     Memory,
 }
 
-/// A show and its analysis, which is made afresh at each change.
+/// A show, and a table that stands for it.
 #[derive(Drop)]
 pub(crate) struct AnalysedShow {
-    alloc: Global,
     show: Show,
-    analysis: Analysis,
+    table: Table,
 }
 
 impl Model for AnalysedShow {
-    ghost use Rattle.std.specs.Prelude.{◌≡◌};
     ghost use Rattle.rf_show.specs.Show.{ShowData};
-    ghost use Rattle.rf_rules.specs.Analyses.{analysed};
+    ghost use Rattle.rf_table.specs.Tables.{StandsFor};
 
     ghost Value = { ShowData };
 
     ghost view = { λ a. a.show };
 
-    ghost invariant = { λ a. a.analysis ≡ analysed a.show };
+    ghost invariant = { λ a. StandsFor a.table a.show };
 }
 
 impl AnalysedShow {
@@ -47,12 +46,8 @@ impl AnalysedShow {
         ensures { IfOk result (λ show. show ≡ first_show) }
     {
         let show = Show::new(alloc)?;
-        let analysis = analyse(alloc, &show)?;
-        Ok(AnalysedShow {
-            alloc,
-            show,
-            analysis,
-        })
+        let table = Table::of(alloc, &show)?;
+        Ok(AnalysedShow { show, table })
     }
 
     /// Makes an edit, and answers what leads back. A refusal and want of memory change nothing.
@@ -65,11 +60,8 @@ impl AnalysedShow {
     {
         match self.show.apply(edit) {
             Err(reason) => Err(EditFault::Refused(reason)),
-            Ok(undo) => match analyse(self.alloc, &self.show) {
-                Ok(fresh) => {
-                    self.analysis = fresh;
-                    Ok(undo)
-                }
+            Ok(undo) => match self.table.change(&self.show) {
+                Ok(()) => Ok(undo),
                 Err(NoMemory) => {
                     let _ = self.show.back(undo);
                     Err(EditFault::Memory)
@@ -88,11 +80,8 @@ impl AnalysedShow {
         ensures kept { IfErr result (λ same. taken self.old same ≡ taken self.old undo) }
     {
         let forth = self.show.back(undo);
-        match analyse(self.alloc, &self.show) {
-            Ok(analysis) => {
-                self.analysis = analysis;
-                Ok(forth)
-            }
+        match self.table.change(&self.show) {
+            Ok(()) => Ok(forth),
             Err(NoMemory) => Err(self.show.back(forth)),
         }
     }
@@ -106,12 +95,12 @@ impl AnalysedShow {
     pub(crate) fn analysis(&self) -> &Analysis
         ensures { result.now ≡ analysed self.now }
     {
-        &self.analysis
+        self.table.conflicts()
     }
 
     pub(crate) fn products(&self, lo: Khz, hi: Khz) -> Result<Products, NoMemory>
         ensures { IfOk result (λ found. found ≡ listed self.now lo hi) }
     {
-        products(self.alloc, &self.show, lo, hi)
+        self.table.products(lo, hi)
     }
 }

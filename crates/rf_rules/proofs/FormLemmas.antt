@@ -106,7 +106,7 @@ unfolding distance_of
 distance-is kind ats t z e = ap unsigned_abs e
 
 -- a first role asks no more than a last one does
-first-le : (show : ShowData) (kind : Kind) (c : ℕ) → floor_of show kind c ≤ asked show kind c
+pub first-le : (show : ShowData) (kind : Kind) (c : ℕ) → floor_of show kind c ≤ asked show kind c
 first-le show Spacing c = omega arith
 first-le show _ c = omega arith
 
@@ -121,7 +121,7 @@ margin-none : (show : ShowData) (kind : Kind) (t : List ℕ) → ((c : ℕ) → 
 margin-none show Spacing t h = omega (arith, h (get_or t 0 0), h (get_or t 1 0))
 margin-none show kind t h = h (get_or t (roles_of kind - 1) 0)
 
-asked-past : (show : ShowData) (kind : Kind) (c : ℕ) → length show.carriers ≤ c → asked show kind c ≡ 0
+pub asked-past : (show : ShowData) (kind : Kind) (c : ℕ) → length show.carriers ≤ c → asked show kind c ≡ 0
 asked-past show kind c h =
     let e : slice_get show.carriers c ≡ None = slice_get_past show.carriers c h in
     ap (λ o. option_map_or (λ p. profile.margin_of p kind) (option_and_then (λ (x : Carrier). find (is_profile x.profile) show.profiles) o) 0) e

@@ -9,4 +9,13 @@ pub mod GroupLemmas
 pub mod ProductLemmas
 pub mod SizeLemmas
 pub mod CompanyLemmas
+pub mod PairLemmas
 pub mod PlanLemmas
+pub mod TouchLemmas
+pub mod RisingLemmas
+pub mod OrderLemmas
+pub mod AlikeLemmas
+pub mod CutLemmas
+pub mod MergeLemmas
+pub mod RenewalLemmas
+pub mod CountLemmas

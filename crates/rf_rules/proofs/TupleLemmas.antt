@@ -45,7 +45,7 @@ pub tuples-suc : {X : Type 0} (k : ℕ) (xs : List X) → tuples (suc k) xs ≡ 
 unfolding tuples
 tuples-suc k xs = refl
 
-begun-more : (k : ℕ) (xs : List ℕ) (i : ℕ) → begun k xs (upto (suc i)) ≡ begun k xs (upto i) ++ map (λ t. i ∷ t) (tuples k xs)
+pub begun-more : (k : ℕ) (xs : List ℕ) (i : ℕ) → begun k xs (upto (suc i)) ≡ begun k xs (upto i) ++ map (λ t. i ∷ t) (tuples k xs)
 begun-more k xs i = ap (λ zs. begun k xs zs) (upto-suc i) ∙ flat_map-append (λ x. map (λ t. x ∷ t) (tuples k xs)) (upto i) (i ∷ []) ∙ ap (λ zs. begun k xs (upto i) ++ zs) (append-nil (map (λ t. i ∷ t) (tuples k xs)))
 
 length-begun : {X : Type 0} (k : ℕ) (xs firsts : List X) → length (begun k xs firsts) ≡ length firsts * length (tuples k xs)

@@ -5,5 +5,9 @@ pub mod Companies
 pub mod Analyses
 pub mod Tallies
 pub mod Searches
+pub mod Paired
 pub mod Products
 pub mod Plans
+pub mod Touched
+pub mod Merges
+pub mod Renewed

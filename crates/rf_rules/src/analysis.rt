@@ -1,4 +1,4 @@
-ghost use Rattle.std.specs.Prelude.{◌≡◌, ◌<◌, OnOk, IfOk, length};
+ghost use Rattle.std.specs.Prelude.{◌≡◌, ◌<◌, ◌++◌, OnOk, IfOk, length};
 ghost use Rattle.std.specs.List.{flat_map};
 ghost use Rattle.rf_terms.specs.Kinds.{kinds};
 ghost use Rattle.rf_rules.specs.Instances.{ats_of};
@@ -11,6 +11,7 @@ use crate::company::Company;
 use crate::conflict::Conflict;
 use crate::frequencies::{assigned, at};
 use crate::lane::{ask_nothing, make_lanes};
+use crate::pairings::Pairings;
 use crate::search::Search;
 use crate::tally::Tally;
 use rf_base::{Items, Khz, NoMemory};
@@ -36,14 +37,23 @@ pub fn analyse(alloc: Global, show: &Show) -> Result<Analysis, NoMemory>
     let ats = assigned(show);
     let ats = &ats[..show.carriers().len()];
     let mut tally = Tally::new(alloc);
-    add_off_grid(show, ats, &mut tally)?;
-    add_banned(show, ats, &mut tally)?;
+    add_carriers(show, ats, &mut tally)?;
     let company = Company::of(alloc, show)?;
-    add_broken(&company, ats, &mut tally)?;
+    add_broken(alloc, &company, ats, &mut tally)?;
     Ok(Analysis {
         shown: Items::from_vec(tally.shown),
         total: tally.total,
     })
+}
+
+/// Adds the assigned carriers that are off their grid, and those whose frequency is banned.
+pub fn add_carriers(show: &Show, ats: &[Option<Khz>], tally: &mut Tally) -> Result<(), NoMemory>
+    requires { ats.now ≡ ats_of show.now }
+    ensures { OnOk result (Extends tally.old tally.new (off_grid show.now ++ banned_carriers show.now)) }
+{
+    add_off_grid(show, ats, tally)?;
+    add_banned(show, ats, tally)?;
+    Ok(())
 }
 
 /// Adds the assigned carriers that are off their grid.
@@ -95,19 +105,25 @@ fn stands_banned(show: &Show, carrier: usize, at: Option<Khz>) -> bool
 }
 
 /// Adds the broken instances of all kinds.
-fn add_broken(company: &Company, ats: &[Option<Khz>], tally: &mut Tally) -> Result<(), NoMemory>
+fn add_broken(
+    alloc: Global,
+    company: &Company,
+    ats: &[Option<Khz>],
+    tally: &mut Tally,
+) -> Result<(), NoMemory>
     requires known { IsCompany company.now }
     requires carriers { ats.now ≡ ats_of company.now.show.now }
     ensures { OnOk result (Extends tally.old tally.new (flat_map (conflicts_of company.now.show.now ats.now) kinds)) }
 {
     for kind in kinds() {
-        add_kind(company, ats, *kind, tally)?;
+        add_kind(alloc, company, ats, *kind, tally)?;
     }
     Ok(())
 }
 
 /// Adds the broken instances of a kind.
 fn add_kind(
+    alloc: Global,
     company: &Company,
     ats: &[Option<Khz>],
     kind: Kind,
@@ -130,5 +146,6 @@ fn add_kind(
         coefficients: coefficients(kind),
         lanes,
     };
-    search.extend(company, [0; 4], 0, 0, tally)
+    let pairings = Pairings::of(alloc, &search)?;
+    search.extend(company, &pairings, [0; 4], 0, 0, tally)
 }

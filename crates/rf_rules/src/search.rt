@@ -1,12 +1,14 @@
-ghost use Rattle.std.specs.Prelude.{◌≡◌, ◌+◌, ◌-◌, ◌<◌, ◌≤◌, ◌++◌, ◌∷◌, [], OnOk, length, take, ℕ, List, true, false, pos, replicate, unsigned_abs};
+ghost use Rattle.std.specs.Prelude.{◌≡◌, ◌+◌, ◌-◌, ◌<◌, ◌≤◌, ◌++◌, ◌∷◌, [], OnOk, length, take, ℕ, List, true, false, pos, replicate, slice_index_or, unsigned_abs, ◌*ℤ◌};
 ghost use Rattle.std.specs.Bool.{OnTrue};
 ghost use Rattle.std.specs.List.{list_all};
-ghost use Rattle.rf_terms.specs.Kinds.{roles_of};
+ghost use Rattle.rf_terms.specs.Kinds.{coefficients_of, roles_of};
 ghost use Rattle.rf_rules.specs.Instances.{AreCarriers, are_assigned, distance_of, is_candidate, is_open, khz_in, ordered_roles};
 ghost use Rattle.rf_rules.specs.Conflicts.{conflict_as};
 ghost use Rattle.rf_rules.specs.Tallies.{Extends};
 ghost use Rattle.rf_rules.specs.Searches.{IsReady, floor_of, broken_in, found, partial_of};
 ghost use Rattle.rf_rules.specs.Companies.{IsCompany};
+ghost use Rattle.rf_rules.specs.Paired.{HasPairs};
+ghost use Rattle.rf_rules.specs.Tuples.{tuples, upto};
 ghost use Rattle.rf_zones.specs.Masks.{has_bit};
 ghost use Rattle.rf_show.specs.Limits.{most_carriers};
 ghost use Rattle.rf_show.specs.Query.{are_joined, margin_of};
@@ -17,12 +19,13 @@ use crate::conflict::Conflict;
 use crate::frequencies::{at, khz_of};
 use crate::instance::{ends_in_order, is_distinct, is_instance, is_out_of_order};
 use crate::lane::Lane;
+use crate::pairings::{Pairings, is_none};
 use crate::tally::Tally;
 use rf_base::{Khz, NoMemory};
 use rf_show::Show;
 use rf_terms::Kind;
 use rf_zones::Mask;
-use rf_zones::mask::has;
+use rf_zones::mask::{all, has};
 
 /// The search for the broken instances of one kind.
 #[derive(Drop)]
@@ -39,6 +42,7 @@ impl Search<'_> {
     pub fn extend(
         &self,
         company: &Company,
+        pairings: &Pairings,
         roles: [usize; 4],
         depth: usize,
         product: i64,
@@ -47,6 +51,7 @@ impl Search<'_> {
         requires ready { IsReady self.now }
         requires known { IsCompany company.now }
         requires same { company.now.show.now ≡ self.now.show.now }
+        requires paired { HasPairs pairings.now self.now }
         requires depth { depth < roles_of self.now.kind }
         requires product { product ≡ partial_of self.now (take depth roles) }
         requires taken { AreCarriers self.now.ats.now (take depth roles) }
@@ -55,20 +60,43 @@ impl Search<'_> {
         if depth + 1 == self.coefficients.len() {
             return self.victims(company, roles, depth, product, tally);
         }
+        let near = self.near(pairings, &roles[..depth], product);
+        if is_none(near) {
+            return Ok(());
+        }
         for carrier in 0..self.ats.len() {
+            if !has(near, carrier) {
+                continue;
+            }
             if self.is_hopeless(&roles[..depth], carrier) {
                 continue;
             }
             let next = self.with(&roles[..depth], carrier, product);
             let mut more = roles;
             more[depth] = carrier;
-            self.extend(company, more, depth + 1, next, tally)?;
+            self.extend(company, pairings, more, depth + 1, next, tally)?;
         }
         Ok(())
     }
 
+    /// Carriers in the next role, without which nothing is broken: all of them where more than two roles are open, and
+    /// otherwise those with which some carrier in the last role may be near.
+    pub fn near(&self, pairings: &Pairings, t: &[usize], product: i64) -> Mask
+        requires ready { IsReady self.now }
+        requires paired { HasPairs pairings.now self.now }
+        requires few { length self.now.ats.now ≤ most_carriers }
+        requires open { length t.now + 1 < roles_of self.now.kind }
+        requires product { product ≡ partial_of self.now t.now }
+        ensures { (c : ℕ) → c < length self.now.ats.now → has_bit result c ≡ false → broken_in self.now (t.now ++ c ∷ []) (tuples (roles_of self.now.kind - length t.now - 1) (upto (length self.now.ats.now))) ≡ [] }
+    {
+        if t.len() + 2 < self.coefficients.len() {
+            return all();
+        }
+        pairings.near(product)
+    }
+
     /// Adds the broken instances whose roles but for the last are taken by `roles[..depth]`.
-    fn victims(
+    pub fn victims(
         &self,
         company: &Company,
         roles: [usize; 4],
@@ -102,7 +130,7 @@ impl Search<'_> {
     }
 
     /// Adds an instance that is near. `mates` has the carriers that can be together with those of the first roles.
-    fn judge(
+    pub fn judge(
         &self,
         t: &[usize],
         last: usize,
@@ -219,6 +247,19 @@ impl Search<'_> {
         }
     }
 
+    /// What a carrier adds in the last role but one.
+    pub fn second_term(&self, carrier: usize) -> i64
+        requires ready { IsReady self.now }
+        requires carrier { carrier < length self.now.ats.now }
+        ensures value { result ≡ slice_index_or (coefficients_of self.now.kind) (roles_of self.now.kind - 2) (pos 0) *ℤ pos (khz_in self.now.ats.now carrier) }
+        ensures bound { unsigned_abs result ≤ 80000000 }
+    {
+        term(
+            self.coefficients[self.coefficients.len() - 2],
+            self.khz(carrier),
+        )
+    }
+
     fn khz(&self, carrier: usize) -> i64
         requires { carrier < length self.now.ats.now }
         ensures value { result ≡ pos (khz_in self.now.ats.now carrier) }
@@ -255,7 +296,7 @@ impl Search<'_> {
     }
 
     /// The carriers are assigned and distinct.
-    fn is_open(&self, t: &[usize]) -> bool
+    pub fn is_open(&self, t: &[usize]) -> bool
         requires { AreCarriers self.now.ats.now t.now }
         ensures { result ≡ is_open self.now.ats.now t.now }
     {

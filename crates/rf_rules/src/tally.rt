@@ -1,4 +1,4 @@
-ghost use Rattle.std.specs.Prelude.{◌≡◌, ◌≤◌, ◌<◌, ◌^◌, ◌∷◌, ◌++◌, [], OnOk, vec_len, IsTrue, ◌↔◌};
+ghost use Rattle.std.specs.Prelude.{◌≡◌, ◌+◌, ◌-◌, min, ◌≤◌, ◌<◌, ◌^◌, ◌∷◌, ◌++◌, [], OnOk, vec_len, IsTrue, ◌↔◌};
 
 use crate::conflict::Conflict;
 use rf_base::NoMemory;
@@ -49,6 +49,14 @@ impl Tally {
         ensures { (conflict : Conflict) → Extends self.old self.new (conflict ∷ []) }
     {
         self.total = self.total.saturating_add(1);
+    }
+
+    /// Counts conflicts more, which aren't shown.
+    pub fn count_more(&mut self, more: u64)
+        ensures shown { self.new.shown.items ≡ self.old.shown.items }
+        ensures total { self.new.total ≡ min (self.old.total + more) (2 ^ 64 - 1) }
+    {
+        self.total = self.total.saturating_add(more);
     }
 
     fn show(shown: &mut Vec<Conflict>, conflict: Conflict) -> Result<(), NoMemory>

@@ -30,7 +30,10 @@ use Rattle.rf_checker.specs.Carriers.{lines_over}
 use Rattle.rf_search.specs.declared.limits.TheConstants.{MAX_BUDGET}
 use Rattle.rf_solving.specs.Solving.{IsSearch, IsWritten, verdict_text}
 use Rattle.rf_saved.specs.Saved.{IsAccepted, SavedSearchIsAccepted, verdict_after}
-use Rattle.rf_saved.proofs.Carried.{branches_read, read_over}
+use Rattle.rf_audit.specs.Laws.{StartedIsHonest}
+use Rattle.rf_audit.specs.declared.answer.Audit.TheVariants.{Honest}
+use Rattle.rf_saved.proofs.Carried.{branches_over, branches_read, read_over}
+use Rattle.rf_saved.proofs.Honest.{started_same}
 use Rattle.rf_saved.proofs.Trimmed.{Aims, LineAims, aims_back, aims_on, trimmed, verdict_trimmed}
 
 -- ---- the verdict ends the log
@@ -108,7 +111,7 @@ line_target n (Nogood conds hints) below = All-weaker (IsHintBelow n) Aims (hint
 line_target n (Branch cut carrier at) below = tt
 line_target n (Up line) below = tt
 
-module _ (read_back : WrittenReadsBack) (sound : ClosedHasNoPlan) where
+module _ (read_back : WrittenReadsBack) (sound : ClosedHasNoPlan) (all_honest : StartedIsHonest) where
   accepted_by : (show : ShowData) (n : ℕ) (ending : Ending) (text : List ℕ) (search : IsSearch show n ending text) → differ (carrier_names show.carriers) ≡ true
       → IsReadBack (carrier_names show.carriers) search.log text → IsAccepted show n ending text
   accepted_by show n ending text search apart back =
@@ -128,6 +131,10 @@ module _ (read_back : WrittenReadsBack) (sound : ClosedHasNoPlan) where
             ∙ verdict_trimmed (case_of show) search.log aims
             ∙ solved_verdict (case_of show) n search.log ending sound search.solved
             ∙ sym (verdict_moved n back.log.lines search.log ending branches);
+        audited = λ found is.
+            all_honest (case_of show) n (lines_over show back.log) found
+            (started_same (case_of show) n search.log (lines_over show back.log) same aims read_aims search.solved.started) is
+            ∙ ap Honest (branches_over show back.log);
       }
 
   pub accepted : SavedSearchIsAccepted

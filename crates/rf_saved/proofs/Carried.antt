@@ -123,6 +123,10 @@ branch_with at (Nogood conds hints) = refl
 branch_with at (Branch cut carrier index) = refl
 branch_with at (Up line) = refl
 
+-- as many branch lines over the show as were read
+pub branches_over : (show : ShowData) (log : LogData) → count_by is_branch (lines_over show log) ≡ count_by is_branch log.lines
+branches_over show log = count_mapped is_branch (line_with (place_at (places_named show.carriers log.names) (length show.carriers))) log.lines (branch_with _)
+
 -- as many branch lines were read as written
 pub branches_read : (show : ShowData) (lines : List LogLine) (log : LogData) → map trimmed (lines_over show log) ≡ map trimmed lines
     → count_by is_branch log.lines ≡ count_by is_branch lines

@@ -1,4 +1,5 @@
 pub mod ListLemmas
 pub mod Trimmed
 pub mod Carried
+pub mod Honest
 pub mod Accepted

@@ -179,8 +179,8 @@ closed_last case old mid new c u replayed empty refuted_ turns log budget =
 met_alone : (k : ℕ) → between k k k ≡ true
 met_alone k = grind (arith, nat_tests)
 
-unmet_above : (k j : ℕ) → k < j → between k k j ≡ false
-unmet_above k j above = grind (arith, nat_tests)
+unmet_apart : (k j : ℕ) → (k ≡ j → ⊥) → between k k j ≡ false
+unmet_apart k j apart = grind (arith, nat_tests)
 
 moved : {case : Case} {n m : ℕ} {log other : List LogLine} {path rest : List Cond} → n ≡ m → log ≡ other → path ≡ rest → IsSearching case m other rest → IsSearching case n log path
 moved {case} {n} {m} {log} {other} {path} {rest} budget is same_path at =
@@ -193,20 +193,20 @@ pub branched : (case : Case) (old new : Search) (choice : Choice) → IsUnderWay
 branched case old new choice u rest choice_ left is =
     let path = path_of (reverse old.levels.items) in
     let c = choice.carrier in
-    let cond = left_side Fix c choice.least in
+    let cond = left_side Fix c choice.at in
     let es = old.trail.entries in
     let level = left_level choice (length es) in
     let size = sets.size_of (counts_of case) c in
     let next : Trace = record { counts = old.trail.counts; entries = decided cond size ++ es } in
-    let one : has_of (counts_of case) es c choice.least ≡ true = subst (λ (ns : List ℕ). has_of ns es c choice.least ≡ true) u.trail.counts choice_.one in
+    let one : has_of (counts_of case) es c choice.at ≡ true = subst (λ (ns : List ℕ). has_of ns es c choice.at ≡ true) u.trail.counts choice_.one in
     let two : has_of (counts_of case) es c choice.other ≡ true = subst (λ (ns : List ℕ). has_of ns es c choice.other ≡ true) u.trail.counts choice_.two in
-    let low : choice.least < size = has_size (counts_of case) es c choice.least one in
-    let low_in : choice.least < count_of case c = subst (λ (n : ℕ). choice.least < n) (size_is case c) low in
+    let low : choice.at < size = has_size (counts_of case) es c choice.at one in
+    let low_in : choice.at < count_of case c = subst (λ (n : ℕ). choice.at < n) (size_is case c) low in
     let known : c < length case.carriers = omega (arith, choice_.known, ap length u.trail.counts, counts_length case) in
-    let met : is_met cond choice.least ≡ true = met_alone choice.least in
-    let unmet : is_met cond choice.other ≡ false = unmet_above choice.least choice.other choice_.apart in
-    let honest : IsHonest case path cond = honest_from case path (has_of old.trail.counts es) cond choice.least choice.other rest.closed choice_.one met choice_.two unmet in
-    let step = branch_step case old.budget old.log.items path Fix c choice.least u.searching known low_in honest (omega (arith, u.counted, left)) in
+    let met : is_met cond choice.at ≡ true = met_alone choice.at in
+    let unmet : is_met cond choice.other ≡ false = unmet_apart choice.at choice.other choice_.apart in
+    let honest : IsHonest case path cond = honest_from case path (has_of old.trail.counts es) cond choice.at choice.other rest.closed choice_.one met choice_.two unmet in
+    let step = branch_step case old.budget old.log.items path Fix c choice.at u.searching known low_in honest (omega (arith, u.counted, left)) in
     let levels_are : reverse new.levels.items ≡ level ∷ reverse old.levels.items = last_is new.levels.items old.levels.items level is.levels in
     let path_is : path_of (reverse new.levels.items) ≡ cond ∷ path = ap path_of levels_are in
     let trail_is : new.trail ≡ next = is.trail ∙ ap (λ (ns : List ℕ). cut_to old.trail cond (sets.size_of ns c)) u.trail.counts in
@@ -217,7 +217,7 @@ branched case old new choice u rest choice_ left is =
           (some.0, subst (λ (n : ℕ). some.0 < n) (size_is case d) (has_size (counts_of case) es d some.0 at), at);
     } in
     let living : is_dead case (has_of (counts_of case) es) ≡ false = living_not_dead case _ lives in
-    let split : IsSplit case (has_of (counts_of case) es) cond = record { living = living; met = (choice.least, one, met); unmet = (choice.other, two, unmet) } in
+    let split : IsSplit case (has_of (counts_of case) es) cond = record { living = living; met = (choice.at, one, met); unmet = (choice.other, two, unmet) } in
     let more_lefts : lefts (cond ∷ path) ≡ 1 + lefts path = lefts-cons cond path in
     record {
       under_way = record {
@@ -229,12 +229,12 @@ branched case old new choice u rest choice_ left is =
         small = u.small;
         bounded = subst (λ (n : ℕ). n ≤ MAX_BUDGET) (sym is.budget) u.bounded;
         searching = moved is.budget is.log path_is step;
-        counted = is.branches ∙ ap (λ n. n + 1) u.counted ∙ sym (ap (count_by is_branch) is.log ∙ count-push is_branch old.log.items (Branch Fix c choice.least));
+        counted = is.branches ∙ ap (λ n. n + 1) u.counted ∙ sym (ap (count_by is_branch) is.log ∙ count-push is_branch old.log.items (Branch Fix c choice.at));
         writable = subst (λ (ls : List LogLine). All (IsWritable (length case.carriers)) ls) (sym is.log)
-            (All-push (IsWritable (length case.carriers)) old.log.items (Branch Fix c choice.least) u.writable (index_short case c choice.least u.small low));
+            (All-push (IsWritable (length case.carriers)) old.log.items (Branch Fix c choice.at) u.writable (index_short case c choice.at u.small low));
       };
       fresh = inl (subst (λ (t : Trace). is_dead case (has_of (counts_of case) t.entries) ≡ false) (sym trail_is)
-          (decide_lives case es cond choice.least (omega arith) low living one met));
+          (decide_lives case es cond choice.at (omega arith) low living one met));
       less = less new.budget new.branches old.budget old.branches (lefts (path_of (reverse new.levels.items))) (lefts path) is.budget is.branches (ap lefts path_is ∙ more_lefts) left;
     }
   where
@@ -271,8 +271,8 @@ pub spent_by : (case : Case) (search : Search) (choice : Choice) → IsUnderWay 
     → IsChoice (length search.trail.counts) (has_of search.trail.counts search.trail.entries) choice → search.budget ≤ search.branches → HasEnded case search spent
 spent_by case search choice u rest is all = record {
   solved = ends_spent case search.budget search.log.items (path_of (reverse search.levels.items)) (has_of search.trail.counts search.trail.entries)
-      choice.carrier choice.least choice.other u.searching rest.closed (omega (arith, u.counted, all, u.searching.started.within))
-      (omega (arith, is.known, ap length u.trail.counts, counts_length case)) is.one is.two (λ e. absurd (omega (arith, e, is.apart)));
+      choice.carrier choice.at choice.other u.searching rest.closed (omega (arith, u.counted, all, u.searching.started.within))
+      (omega (arith, is.known, ap length u.trail.counts, counts_length case)) is.one is.two (λ e. is.apart (sym e));
   parts = u.searching.parts;
   writable = u.writable;
 }

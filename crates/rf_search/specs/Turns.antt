@@ -45,13 +45,13 @@ pub record IsRefuted (old new : Search) : Type 0 where
   pub branches : new.branches ≡ old.branches
 
 abbrev pub left_level : Choice → ℕ → Level
-left_level choice entries = record { cond = left_side Fix choice.carrier choice.least; mark = record { entries = entries } }
+left_level choice entries = record { cond = left_side Fix choice.carrier choice.at; mark = record { entries = entries } }
 
--- the search went down the left side of a branching: the choice's least index alone
+-- the search went down the left side of a branching: the choice's index alone
 pub record IsBranched (choice : Choice) (old new : Search) : Type 0 where
-  pub log : new.log.items ≡ old.log.items ++ Branch Fix choice.carrier choice.least ∷ []
+  pub log : new.log.items ≡ old.log.items ++ Branch Fix choice.carrier choice.at ∷ []
   pub levels : new.levels.items ≡ old.levels.items ++ left_level choice (length old.trail.entries) ∷ []
-  pub trail : new.trail ≡ record old.trail { entries = decided (left_side Fix choice.carrier choice.least) (size_of old.trail.counts choice.carrier) ++ old.trail.entries }
+  pub trail : new.trail ≡ record old.trail { entries = decided (left_side Fix choice.carrier choice.at) (size_of old.trail.counts choice.carrier) ++ old.trail.entries }
   pub budget : new.budget ≡ old.budget
   pub branches : new.branches ≡ old.branches + 1
 

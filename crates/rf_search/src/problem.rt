@@ -10,8 +10,12 @@ ghost use Rattle.rf_search.specs.Out.{Leads, LeadsToFailed};
 use crate::answer::Answer;
 use crate::out::LogOut;
 use crate::solving::{SolveFault, solve_by};
+use rf_base::{Items, NoMemory};
+use rf_domain::Domains;
+use rf_find::{Advice, find};
 use rf_problem::Problem;
-use rf_props::{ProblemTheory, engine_of, trail_of};
+use rf_propagate::{Engine, Outcome};
+use rf_props::{ProblemTheory, Rules, engine_of, settle, trail_of};
 use std::alloc::Global;
 
 /// Searches for a plan of a problem with at most `budget` branchings. The lines of the log are handed out in the end.
@@ -43,5 +47,38 @@ pub fn solve<L: LogOut>(
         return Err(SolveFault::Memory);
     };
     let mut engine = engine_of(theory);
-    solve_by(alloc, &mut engine, trail, budget, out)
+    let Ok(advice) = advice_for(alloc, problem, &mut engine, budget) else {
+        return Err(SolveFault::Memory);
+    };
+    solve_by(alloc, &mut engine, trail, advice.as_slice(), budget, out)
+}
+
+// What is advised for each carrier, where a search is to branch: where there is something left to decide, and a branching to do it.
+fn advice_for<'a>(
+    alloc: Global,
+    problem: &Problem,
+    engine: &mut Engine<ProblemTheory<'a>, Rules>,
+    budget: u32,
+) -> Result<Items<Advice>, NoMemory>
+    requires { engine.old.theory.problem.now ≡ problem.now }
+    ensures { engine.new.theory ≡ engine.old.theory }
+{
+    if budget == 0 {
+        return Ok(Items::from_vec(Vec::new(alloc)));
+    }
+    let mut trail = trail_of(alloc, problem)?;
+    match settle(engine, &mut trail)? {
+        Outcome::Quiet if is_open(trail.domains()) => Ok(find(alloc, problem)?.advice),
+        _ => Ok(Items::from_vec(Vec::new(alloc))),
+    }
+}
+
+// Whether some carrier has two indices left or more.
+fn is_open(domains: &Domains) -> bool {
+    for carrier in 0..domains.carriers() {
+        if domains.count(carrier) > 1 {
+            return true;
+        }
+    }
+    false
 }

@@ -12,6 +12,7 @@ use crate::choice::{choose, plan_of};
 use crate::search::Search;
 use crate::turn::turn;
 use rf_base::{Items, NoMemory};
+use rf_find::Advice;
 use rf_propagate::{Engine, Outcome, Propagator, Theory};
 use std::alloc::Global;
 
@@ -31,14 +32,18 @@ fn close(alloc: Global, search: &mut Search) -> Result<Option<Answer>, NoMemory>
 }
 
 /// Branches, where nothing more falls. It is the end where each carrier has one index, or where the budget is used up.
-fn go_down(alloc: Global, search: &mut Search) -> Result<Option<Answer>, NoMemory>
+fn go_down(
+    alloc: Global,
+    search: &mut Search,
+    advice: &[Advice],
+) -> Result<Option<Answer>, NoMemory>
     requires { IsSomewhere search.old }
     ensures on { (case : Case) → result ≡ Ok None → IsUnderWay case search.old → IsAtRest case search.old → GoesOn case search.old search.new }
     ensures ended { (answer : Answer) (case : Case) → result ≡ Ok (Some answer) → IsUnderWay case search.old → IsAtRest case search.old
         → HasEnded case search.new (ending_of answer) }
     ensures budget { OnOk result (search.new.budget ≡ search.old.budget) }
 {
-    let Some(choice) = choose(&search.trail) else {
+    let Some(choice) = choose(&search.trail, advice) else {
         let plan = plan_of(alloc, &search.trail)?;
         return Ok(Some(Answer::Plan(Items::from_vec(plan))));
     };
@@ -74,6 +79,7 @@ fn step<T: Theory, P: Propagator<T>>(
     alloc: Global,
     engine: &mut Engine<T, P>,
     search: &mut Search,
+    advice: &[Advice],
 ) -> Result<Option<Answer>, NoMemory>
     requires under_way { IsUnderWay (T.case engine.old.theory) search.old }
     requires fresh { IsFresh (T.case engine.old.theory) search.old }
@@ -86,15 +92,16 @@ fn step<T: Theory, P: Propagator<T>>(
 {
     match settle(engine, search)? {
         Outcome::Wiped(_) => close(alloc, search),
-        Outcome::Quiet => go_down(alloc, search),
+        Outcome::Quiet => go_down(alloc, search, advice),
     }
 }
 
-/// Searches to an end.
+/// Searches to an end. Where it branches goes by what is advised.
 pub fn run<T: Theory, P: Propagator<T>>(
     alloc: Global,
     engine: &mut Engine<T, P>,
     search: &mut Search,
+    advice: &[Advice],
 ) -> Result<Answer, NoMemory>
     requires under_way { IsUnderWay (T.case engine.old.theory) search.old }
     requires fresh { IsFresh (T.case engine.old.theory) search.old }
@@ -103,7 +110,7 @@ pub fn run<T: Theory, P: Propagator<T>>(
     ensures budget { OnOk result (search.new.budget ≡ search.old.budget) }
 {
     'turns: loop {
-        if let Some(answer) = step(alloc, engine, search)? {
+        if let Some(answer) = step(alloc, engine, search, advice)? {
             return Ok(answer);
         }
     }

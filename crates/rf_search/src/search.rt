@@ -56,7 +56,7 @@ impl Search {
         Ok(())
     }
 
-    /// Adds a branch line, and goes down its left side: the choice's least index alone.
+    /// Adds a branch line, and goes down its left side: the choice's index alone.
     pub fn branch(&mut self, choice: Choice) -> Result<(), NoMemory>
         requires somewhere { IsSomewhere self.old }
         requires left { self.old.branches < self.old.budget }
@@ -67,15 +67,15 @@ impl Search {
         let cond = Cond {
             carrier,
             inside: true,
-            lo: choice.least,
-            hi: choice.least,
+            lo: choice.at,
+            hi: choice.at,
         };
         let mark = self.trail.mark();
         self.levels.push(Level { cond, mark })?;
         self.log.push(LogLine::Branch {
             cut: Cut::Fix,
             carrier,
-            at: choice.least,
+            at: choice.at,
         })?;
         self.trail.decide(cond)?;
         self.branches += 1;

@@ -13,6 +13,7 @@ use crate::answer::Answer;
 use crate::out::{LogFail, LogOut};
 use crate::run::run;
 use crate::search::Search;
+use rf_find::Advice;
 use rf_log::LogLine;
 use rf_propagate::{Engine, Propagator, Theory};
 use rf_trail::Trail;
@@ -48,12 +49,14 @@ fn hand_out<L: LogOut>(lines: &[LogLine], out: &mut L) -> Result<(), SolveFault>
 }
 
 /// Searches with an engine of every kind and of bans, over a trail that was made with its theory's counts and has no
-/// entries. The budget is the most branchings. The lines of the log are handed out in the end. `LogFault` comes only where
+/// entries. The budget is the most branchings. What is advised for each
+/// carrier says where it branches, and nothing of what comes of that hangs on it. The lines of the log are handed out in the end. `LogFault` comes only where
 /// the output's count rose.
 pub fn solve_by<T: Theory, P: Propagator<T>, L: LogOut>(
     alloc: Global,
     engine: &mut Engine<T, P>,
     trail: Trail,
+    advice: &[Advice],
     budget: u32,
     out: &mut L,
 ) -> Result<Answer, SolveFault>
@@ -76,7 +79,7 @@ pub fn solve_by<T: Theory, P: Propagator<T>, L: LogOut>(
     ensures later { L.faults out.old ≤ L.faults out.new }
 {
     let mut search = Search::new(alloc, trail, budget);
-    let Ok(answer) = run(alloc, engine, &mut search) else {
+    let Ok(answer) = run(alloc, engine, &mut search, advice) else {
         return Err(SolveFault::Memory);
     };
     match hand_out(search.log.as_slice(), out) {

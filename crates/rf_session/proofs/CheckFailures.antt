@@ -30,7 +30,7 @@ use Rattle.rf_session.specs.declared.check.CheckFault.TheVariants.{Shelf as NotF
 use Rattle.rf_session.specs.declared.show_file.LineFault.TheVariants.{Shelf}
 use Rattle.rf_session.specs.declared.show_file.ShowFault.{ShowFault}
 use Rattle.rf_session.specs.declared.show_file.ShowFault.TheVariants as show
-use Rattle.rf_session.specs.Checked.{Finds, FindsAfter, FindsFrom, FindsInLog, Found, Judging, NotFound, finding_of}
+use Rattle.rf_session.specs.Checked.{Finds, FindsAfter, FindsFrom, FindsInLog, Found, FindsOf, Judging, NotFound}
 use Rattle.rf_session.specs.Fetches.{Fetched, of_file, Got, found, too_large, fault, Outside, asks_for, fails_at, fetch_of}
 use Rattle.rf_session.specs.Files.{hot_or, profiles_or}
 use Rattle.rf_session.specs.Run.{is_passed}
@@ -92,8 +92,8 @@ record FailsLast (fetches : List Fetched) : Type 0 where
   pub name : List ℕ
   pub whole : fetches ≡ earlier ++ of_file name fault ∷ []
 
-log_fetched : (judge : Judging) (s : ShowData) (r : Result LogData ℕ) → ◌≡◌ {A = Result _ _} (Err NotFetched) (finding_of judge s r) → ⊥
-log_fetched judge s (Ok log) is = cc
+log_fetched : (judge : Judging) (s : ShowData) (r : Result LogData ℕ) → FindsOf judge s r (Err NotFetched) → ⊥
+log_fetched judge s (Ok log) (finding, finds, is) = cc
 log_fetched judge s (Err line) is = cc
 
 log_fails : (judge : Judging) (s : ShowData) (log : List ℕ) (last : List Fetched) → FindsInLog judge s log last (Err NotFetched) → FailsLast last

@@ -1,5 +1,5 @@
 -- What a check fetches and finds, stage by stage.
-use Rattle.std.proofs.Common.{◌≡◌, ◌≢◌, ◌∙◌, ℕ, false, List, [], ◌∷◌, ◌++◌, Some, None, Result, Ok, Err, refl, ap, subst, arith, append_assoc, append-nil}
+use Rattle.std.proofs.Common.{◌≡◌, ◌≢◌, ◌∙◌, ℕ, false, List, [], ◌∷◌, ◌++◌, Some, None, Result, Ok, Err, refl, sym, ap, subst, arith, append_assoc, append-nil}
 use Rattle.std.specs.Str.{bytes_eq}
 use Rattle.std.specs.declared.option.Option.{Option}
 use Rattle.rf_base.specs.Input.{lines_of}
@@ -12,7 +12,7 @@ use Rattle.rf_session.specs.declared.finding.Finding.TheVariants.{ShowLarge, Sho
 use Rattle.rf_session.specs.declared.reply.Code.{Code}
 use Rattle.rf_session.specs.declared.show_file.ShowFault.{ShowFault}
 use Rattle.rf_session.specs.declared.show_file.ShowFault.TheVariants.{Line as BadLine, Shelf as NotFetched}
-use Rattle.rf_session.specs.Checked.{Fetching, Found, FoundInLog, FoundOver, IfFound, Judging, KeepsOthers, finding_of, finding_on, log_limit}
+use Rattle.rf_session.specs.Checked.{Fetching, Found, FoundInLog, FoundOver, IfFound, Judging, FindsOf, FindsOn, KeepsOthers, log_limit}
 use Rattle.rf_session.specs.Fetches.{Fetched, absent, fault, found, too_large, of_file, Got, Outside, MayCome, Brought, BroughtWithin, KeptCounts}
 use Rattle.rf_session.specs.ShowFile.{IfShow, ShowRead, are_naming}
 use Rattle.rf_session.specs.Top.{script}
@@ -54,9 +54,9 @@ Fetching-after finds more before mid after fs brought kept goes later = record {
 -- the log alone is fetched
 pub FoundInLog-fetched : (judge : Judging) (r : Result Finding CheckFault) (show : ShowData) (log : List ℕ) (got : Got) (before after : Outside) →
     BroughtWithin log_limit before after (of_file log got ∷ []) → ((other : List ℕ) → other ≢ log → after.faults other ≡ before.faults other) →
-    IfFound r (λ end. end ≡ finding_on judge show got) → IfFound r (FoundInLog judge show log before after)
+    IfFound r (FindsOn judge show got) → IfFound r (FoundInLog judge show log before after)
 FoundInLog-fetched judge r show log got before after brought others finds =
-    IfFound-weaker r (λ end. end ≡ finding_on judge show got) (FoundInLog judge show log before after) (λ end is. record {
+    IfFound-weaker r (FindsOn judge show got) (FoundInLog judge show log before after) (λ end is. record {
       first = [];
       last = of_file log got ∷ [];
       finds = (refl, (got, refl, is));
@@ -69,11 +69,11 @@ FoundInLog-fetched judge r show log got before after brought others finds =
 -- the text of the log is judged
 pub FoundInLog-judged : (judge : Judging) (r : Result Finding CheckFault) (show : ShowData) (log bytes text : List ℕ) (got : Got) (before after : Outside) → got ≡ found bytes →
     text ≡ bytes → BroughtWithin log_limit before after (of_file log got ∷ []) → ((other : List ℕ) → other ≢ log → after.faults other ≡ before.faults other) →
-    IfFound r (λ end. end ≡ finding_of judge show (log_of text)) → IfFound r (FoundInLog judge show log before after)
+    IfFound r (FindsOf judge show (log_of text)) → IfFound r (FoundInLog judge show log before after)
 FoundInLog-judged judge r show log bytes text got before after is same brought others finds =
-    let path : finding_of judge show (log_of text) ≡ finding_on judge show got = rw (is, same) refl in
     FoundInLog-fetched judge r show log got before after brought others
-    (IfFound-weaker r (λ end. end ≡ finding_of judge show (log_of text)) (λ end. end ≡ finding_on judge show got) (λ end holds. holds ∙ path) finds)
+    (IfFound-weaker r (FindsOf judge show (log_of text)) (FindsOn judge show got)
+    (λ end holds. subst (λ (g : Got). FindsOn judge show g end) (sym is) (subst (λ t. FindsOf judge show (log_of t) end) same holds)) finds)
 
 -- the show was made, and the log is judged over it
 pub FoundOver-made : (judge : Judging) (r : Result Finding CheckFault) (bytes log : List ℕ) (show : ShowData) (before mid after : Outside) →

@@ -7,10 +7,11 @@ use Rattle.rf_base.specs.Told.{WhereTold}
 use Rattle.rf_base.specs.declared.status.Status.{Status}
 use Rattle.rf_base.specs.declared.status.Status.TheVariants.{Done, Refused, Words, Read, Write, Shelf, Memory, Long}
 use Rattle.rf_words.specs.declared.asked.Asked.{Asked}
-use Rattle.rf_words.specs.declared.asked.Asked.TheVariants.{Session, Check}
+use Rattle.rf_words.specs.declared.asked.Asked.TheVariants.{Session, Check, Audit, Demo}
 use Rattle.rf_session.specs.declared.check.CheckFault.TheVariants.{Shelf as NotFetched}
-use Rattle.rf_session.specs.Checked.{Checks, judged}
-use Rattle.rf_session.specs.Process.{Ends, EndsWell, IsUndisturbed, JudgingEnds, SessionEnds, SessionServed, UsageEnds, World}
+use Rattle.rf_session.specs.Checked.{Checks, Judging, audited, judged}
+use Rattle.rf_session.specs.Demonstrated.{Demonstrates}
+use Rattle.rf_session.specs.Process.{DemoEnds, Ends, EndsWell, IsDone, IsUndisturbed, JudgingEnds, JudgingUndisturbed, SessionEnds, SessionServed, UsageEnds, World}
 use Rattle.rf_session.specs.Top.{Headline, Serves}
 use Rattle.rf_session.specs.Words.{Usage}
 use Rattle.rf_session.proofs.CheckEnds.{Unjudged-none}
@@ -43,21 +44,45 @@ Ends-session asked status before after is told read write no_words no_shelf = rw
     by_status Memory serves read write no_words no_shelf = record { replies = Serves-memory before.outside after.outside before.left after.left Memory serves refl }
     by_status Long serves read write no_words no_shelf = record { replies = Serves-long before.outside after.outside before.left after.left Long serves refl }
 
+-- the judgement of a log
+Judging-checked : (judge : Judging) (show log : List ℕ) (before after : World) (status : Status) →
+    Checks judge status show log before.outside after.outside → (status ≡ Write → Rose before.write_faults after.write_faults) →
+    JudgingEnds judge show log status before after
+Judging-checked judge show log before after Done checks write = checks
+Judging-checked judge show log before after Refused checks write = checks
+Judging-checked judge show log before after Words checks write = checks
+Judging-checked judge show log before after Read checks write = checks
+Judging-checked judge show log before after Write checks write = record { cause = write refl; line = checks }
+Judging-checked judge show log before after Shelf checks write = checks
+Judging-checked judge show log before after Memory checks write = checks
+Judging-checked judge show log before after Long checks write = checks
+
 -- a check
 pub Ends-check : (asked : Option Asked) (status : Status) (show log : List ℕ) (before after : World) → asked ≡ Some (Check show log) →
     Checks judged status show log before.outside after.outside → (status ≡ Write → Rose before.write_faults after.write_faults) → Ends asked status before after
-Ends-check asked status show log before after is checks write = rw is (by_status status checks write)
+Ends-check asked status show log before after is checks write = rw is (Judging-checked judged show log before after status checks write)
+
+-- an audit
+pub Ends-audit : (asked : Option Asked) (status : Status) (show log : List ℕ) (before after : World) → asked ≡ Some (Audit show log) →
+    Checks audited status show log before.outside after.outside → (status ≡ Write → Rose before.write_faults after.write_faults) → Ends asked status before after
+Ends-audit asked status show log before after is checks write = rw is (Judging-checked audited show log before after status checks write)
+
+-- a demonstration
+pub Ends-demo : (asked : Option Asked) (status : Status) (seed count : ℕ) (before after : World) → asked ≡ Some (Demo seed count) →
+    Demonstrates seed count status before.outside.written after.outside.written → (status ≡ Write → Rose before.write_faults after.write_faults) →
+    Ends asked status before after
+Ends-demo asked status seed count before after is plays write = rw is (by_status status plays write)
   where
-    by_status : (s : Status) → Checks judged s show log before.outside after.outside → (s ≡ Write → Rose before.write_faults after.write_faults) →
-        JudgingEnds judged show log s before after
-    by_status Done checks write = checks
-    by_status Refused checks write = checks
-    by_status Words checks write = checks
-    by_status Read checks write = checks
-    by_status Write checks write = record { cause = write refl; line = checks }
-    by_status Shelf checks write = checks
-    by_status Memory checks write = checks
-    by_status Long checks write = checks
+    by_status : (s : Status) → Demonstrates seed count s before.outside.written after.outside.written →
+        (s ≡ Write → Rose before.write_faults after.write_faults) → DemoEnds seed count s before after
+    by_status Done plays write = record { lines = plays }
+    by_status Refused plays write = plays
+    by_status Words plays write = plays
+    by_status Read plays write = plays
+    by_status Write plays write = record { cause = write refl; lines = plays }
+    by_status Shelf plays write = plays
+    by_status Memory plays write = record { unwritten = plays }
+    by_status Long plays write = plays
 
 -- words that ask for nothing
 pub Ends-usage : (asked : Option Asked) (status : Status) (before after : World) → asked ≡ None →
@@ -81,6 +106,8 @@ Ends-unread None world = record { wrote = record { count = 0; within = omega ari
 Ends-unread (Some Session) world =
     record { replies = Serves-memory world.outside world.outside world.left world.left Memory (Serves-none world.outside world.left) refl }
 Ends-unread (Some (Check show log)) world = Unjudged-none show log world.outside
+Ends-unread (Some (Audit show log)) world = Unjudged-none show log world.outside
+Ends-unread (Some (Demo seed count)) world = record { unwritten = refl }
 
 -- the headline, of a session that came to its end
 pub Ends-headline : (asked : Option Asked) (status : Status) (before after : World) → Ends asked status before after → asked ≡ Some Session →
@@ -96,6 +123,30 @@ Ends-headline asked status before after ends is refusal ended =
 -- this status
 pub Ends-named : (asked : Option Asked) (status named : Status) (before after : World) → Ends asked status before after → status ≡ named → Ends asked named before after
 Ends-named asked status named before after ends is = subst (λ (s : Status). Ends asked s before after) is ends
+
+-- without a fault a log is judged
+Judging-well : (judge : Judging) (show log : List ℕ) (before after : World) (status : Status) → JudgingEnds judge show log status before after →
+    JudgingUndisturbed judge show log before after → IsDone status
+Judging-well judge show log before after Done ends fine = tt
+Judging-well judge show log before after Refused ends fine = tt
+Judging-well judge show log before after Words ends fine = ends
+Judging-well judge show log before after Read ends fine = ends
+Judging-well judge show log before after Write ends fine = fine.output ends.cause
+Judging-well judge show log before after Shelf ends fine = fine.files ends.name record { end = Err NotFetched; run = ends.run; asks = ends.asks } ends.rose
+Judging-well judge show log before after Memory ends fine = tt
+Judging-well judge show log before after Long ends fine = ends
+
+-- without a fault the lines of a demonstration are written
+Demo-well : (seed count : ℕ) (before after : World) (status : Status) → DemoEnds seed count status before after →
+    (Rose before.write_faults after.write_faults → ⊥) → IsDone status
+Demo-well seed count before after Done ends fine = tt
+Demo-well seed count before after Refused ends fine = tt
+Demo-well seed count before after Words ends fine = ends
+Demo-well seed count before after Read ends fine = ends
+Demo-well seed count before after Write ends fine = fine ends.cause
+Demo-well seed count before after Shelf ends fine = ends
+Demo-well seed count before after Memory ends fine = tt
+Demo-well seed count before after Long ends fine = ends
 
 -- without a fault what is asked is done
 pub Ends-well : (asked : Option Asked) (status : Status) (before after : World) → Ends asked status before after → IsUndisturbed asked before after →
@@ -116,11 +167,6 @@ Ends-well (Some Session) Write before after ends fine = fine.output ends.cause
 Ends-well (Some Session) Shelf before after ends fine = ends
 Ends-well (Some Session) Memory before after ends fine = tt
 Ends-well (Some Session) Long before after ends fine = fits before.outside after.outside before.left after.left ends.replies fine.small
-Ends-well (Some (Check show log)) Done before after ends fine = tt
-Ends-well (Some (Check show log)) Refused before after ends fine = tt
-Ends-well (Some (Check show log)) Words before after ends fine = ends
-Ends-well (Some (Check show log)) Read before after ends fine = ends
-Ends-well (Some (Check show log)) Write before after ends fine = fine.output ends.cause
-Ends-well (Some (Check show log)) Shelf before after ends fine = fine.files ends.name record { end = Err NotFetched; run = ends.run; asks = ends.asks } ends.rose
-Ends-well (Some (Check show log)) Memory before after ends fine = tt
-Ends-well (Some (Check show log)) Long before after ends fine = ends
+Ends-well (Some (Check show log)) status before after ends fine = Judging-well judged show log before after status ends fine
+Ends-well (Some (Audit show log)) status before after ends fine = Judging-well audited show log before after status ends fine
+Ends-well (Some (Demo seed count)) status before after ends fine = Demo-well seed count before after status ends fine

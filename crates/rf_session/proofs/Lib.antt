@@ -1,6 +1,7 @@
 pub mod CheckEnds
 pub mod CheckFailures
 pub mod Checking
+pub mod Demonstrating
 pub mod Ending
 pub mod FetchLaws
 pub mod Follows
@@ -10,5 +11,7 @@ pub mod Searching
 pub mod Serving
 pub mod ShowLineLaws
 pub mod ShowReading
+pub mod SparesLaws
 pub mod Starting
+pub mod TextualLaws
 pub mod UnfetchedLaws

@@ -4,24 +4,27 @@ use Rattle.std.specs.Result.{IfOk, IfErr, OnErr}
 use Rattle.std.specs.declared.option.Option.{Option}
 use Rattle.std.specs.Io.KnownBytes.{Appends}
 use Rattle.rf_base.specs.Piece.{AppendsPrefix}
-use Rattle.rf_editor.specs.History.{History}
+use Rattle.rf_editor.specs.History.{History, edited_history}
+use Rattle.rf_show.specs.Show.{ShowData}
 use Rattle.rf_show.specs.declared.edit.Edit.{Edit}
 use Rattle.rf_text.specs.Commands.{command_of}
 use Rattle.rf_text.specs.declared.command.Command.{Command}
 use Rattle.rf_text.specs.declared.command.UnknownLine.{UnknownLine}
 use Rattle.rf_session.specs.declared.answer.Answer.{Answer}
-use Rattle.rf_session.specs.declared.answer.Answer.TheVariants.{Reply as Says}
+use Rattle.rf_session.specs.declared.answer.Answer.TheVariants.{Reply as Says, Inquiry as Ask}
+use Rattle.rf_session.specs.declared.inquiry.Inquiry.{Inquiry}
 use Rattle.rf_session.specs.declared.file_fault.FileFault.{FileFault}
 use Rattle.rf_session.specs.declared.file_fault.FileFault.TheVariants.{Memory as NoMemory}
 use Rattle.rf_session.specs.declared.machine.Stop.{Stop}
 use Rattle.rf_session.specs.declared.machine.Stop.TheVariants.{Write}
+use Rattle.rf_session.specs.declared.reply.Code.{Code}
 use Rattle.rf_session.specs.declared.reply.Code.TheVariants.{UnknownLine as IsUnknownLine}
 use Rattle.rf_session.specs.declared.reply.Reply.{Reply}
 use Rattle.rf_session.specs.declared.reply.Reply.TheVariants.{Error}
 use Rattle.rf_session.specs.Fetches.{absent, fault, fetch_of, of_file, Got, Outside, outside, shelf_alone, Brought, Obeyed}
 use Rattle.rf_session.specs.Reply.{is_refusal, text_of}
 use Rattle.rf_session.specs.Run.{IsCut, Replied, Writes, WritesPart}
-use Rattle.rf_session.specs.Shows.{AnswerPart, Answers, ComesTo, Obeys, PartsOf, edited_by, file_of, outcome, said_outcome}
+use Rattle.rf_session.specs.Shows.{AnswerPart, Answers, ComesTo, IsGivable, IsTold, Obeys, PartsOf, coded, moved, edited_by, file_of, outcome, said_outcome}
 use Rattle.rf_session.proofs.FetchLaws.{Obeyed-absent, Obeyed-file}
 
 -- what a file gave, where memory was found
@@ -61,6 +64,44 @@ said_cut {T} (Err stop) history answer reply said a b is same part only =
     rw (is, by) record {
       part = take part.count (text_of said);
       may = inr (inl (said, history, (same, refl), part.count, refl));
+      wrote = part.grew;
+    }
+
+pub ok_then : {T E : Type 0} (r : Result T E) (P Q : T → Type 0) → IfOk r P → ((x : T) → P x → Q x) → IfOk r Q
+ok_then (Ok x) P Q h f = f x h
+ok_then (Err e) P Q h f = tt
+
+moved_givable : (old : History) (r : Result History Code) → IsGivable (moved old r).answer
+moved_givable old (Ok history) = tt
+moved_givable old (Err code) = tt
+
+edit_givable : (old : History) (edit : Result Edit FileFault) → IsGivable (edited_by old edit).answer
+edit_givable old (Ok edit) = moved_givable old (coded (edited_history old edit))
+edit_givable old (Err why) = tt
+
+-- what a file's edit is answered can be given
+pub givable_by : {E : Type 0} (r : Result Answer E) (old : History) (edit : Result Edit FileFault) → IfOk r (λ answer. answer ≡ (edited_by old edit).answer) → IfOk r IsGivable
+givable_by (Ok answer) old edit is = subst IsGivable (sym is) (edit_givable old edit)
+givable_by (Err e) old edit is = tt
+
+-- what an inquiry was told was written
+pub told_given : {E : Type 0} (r : Result Bool E) (history : History) (show : ShowData) (answer : Answer) (inquiry : Inquiry) (said : Reply) (a b : Option (List ℕ)) →
+    answer ≡ Ask inquiry → show ≡ history.show → IsTold show inquiry said → IfOk r (λ refusal. Appends a b (text_of said)) →
+    IfOk r (λ refusal. refusal ≡ is_refusal said) → IfOk r (Writes (λ reply. Answers history answer reply history) a b)
+told_given (Ok refusal) history show answer inquiry said a b is here told wrote refuses =
+    rw is record { reply = said; took = (subst (λ (s : ShowData). IsTold s inquiry said) here told, refl); wrote = wrote; refuses = refuses }
+told_given (Err e) history show answer inquiry said a b is here told wrote refuses = tt
+
+-- it was cut short
+pub told_cut : {T : Type 0} (r : Result T Stop) (history : History) (show : ShowData) (answer : Answer) (inquiry : Inquiry) (said : Reply) (a b : Option (List ℕ)) →
+    answer ≡ Ask inquiry → show ≡ history.show → IsTold show inquiry said → OnErr r (AppendsPrefix a b (text_of said)) → OnErr r (r ≡ Err Write) →
+    IfErr r (λ stop. WritesPart (AnswerPart stop history answer) a b)
+told_cut (Ok x) history show answer inquiry said a b is here told part only = tt
+told_cut {T} (Err stop) history show answer inquiry said a b is here told part only =
+    let by : stop ≡ Write = let it : ◌≡◌ {A = Result T Stop} (Err stop) (Err Write) = only in cc in
+    rw (is, by) record {
+      part = take part.count (text_of said);
+      may = inr (inl (said, history, (subst (λ (s : ShowData). IsTold s inquiry said) here told, refl), part.count, refl));
       wrote = part.grew;
     }
 

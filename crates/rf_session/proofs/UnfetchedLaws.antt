@@ -23,7 +23,7 @@ use Rattle.rf_text.specs.declared.command.UnknownLine.{UnknownLine}
 use Rattle.rf_profiles.specs.File.{profiles_of}
 use Rattle.rf_scan.specs.Scan.{scan_of}
 use Rattle.rf_session.specs.declared.answer.Answer.{Answer}
-use Rattle.rf_session.specs.declared.answer.Answer.TheVariants.{Reply as Says, Search}
+use Rattle.rf_session.specs.declared.answer.Answer.TheVariants.{Reply as Says, Inquiry as Ask, Search}
 use Rattle.rf_session.specs.declared.reply.Reply.{Reply}
 use Rattle.rf_session.specs.Fetches.{Fetched, of_file, Got, found, too_large, fault, Outside, fails_at, fetch_of}
 use Rattle.rf_session.specs.Files.{hot_or, profiles_or}
@@ -35,10 +35,12 @@ use Rattle.rf_session.proofs.FetchLaws.{count_by-append}
 -- whether an answer is E11
 abbrev answer_faults : Answer → Bool
 answer_faults (Says reply) = is_shelf_fault reply
+answer_faults (Ask inquiry) = false
 answer_faults (Search n places) = false
 
 gives_fault : (history new : History) (answer : Answer) (reply : Reply) → Answers history answer reply new → is_shelf_fault reply ≡ true → answer_faults answer ≡ true
 gives_fault history new (Says said) reply (is, stays) h = sym (ap is_shelf_fault is) ∙ h
+gives_fault history new (Ask inquiry) reply ((text, tells, is), stays) h = absurd (false≢true (sym (ap is_shelf_fault is) ∙ h))
 gives_fault history new (Search n places) reply (ending, text, searched, is, leaves) h = absurd (false≢true (sym (ap is_shelf_fault is) ∙ h))
 
 moved_other : (old : History) (r : Result History Refusal) → answer_faults (moved old (coded r)).answer ≡ false

@@ -8,6 +8,8 @@ use Rattle.rf_base.specs.Input.{lines_of}
 use Rattle.rf_base.specs.Piece.{AppendsPrefix}
 use Rattle.rf_base.specs.declared.status.Status.{Status}
 use Rattle.rf_base.specs.declared.status.Status.TheVariants.{Done, Refused, Words, Read, Write, Shelf, Memory, Long}
+use Rattle.rf_audit.specs.Audited.{IsAudited}
+use Rattle.rf_audit.specs.declared.answer.Audit.{Audit}
 use Rattle.rf_checker.specs.Carriers.{lines_over}
 use Rattle.rf_log.specs.LogText.{LogData, log_of}
 use Rattle.rf_log.specs.Walk.{verdict_of}
@@ -16,7 +18,9 @@ use Rattle.rf_show.specs.Show.{ShowData}
 use Rattle.rf_session.specs.declared.check.CheckFault.{CheckFault}
 use Rattle.rf_session.specs.declared.check.CheckFault.TheVariants.{Shelf as NotFetched, Memory as NoMemory}
 use Rattle.rf_session.specs.declared.finding.Finding.{Finding}
-use Rattle.rf_session.specs.declared.finding.Finding.TheVariants.{Judged, ShowLine, ShowLarge, LogLine, LogLarge}
+use Rattle.rf_session.specs.declared.finding.Finding.TheVariants.{Audited, Judged, ShowLine, ShowLarge, LogLine, LogLarge}
+use Rattle.rf_session.specs.declared.judge.Judge.{Judge}
+use Rattle.rf_session.specs.declared.judge.Judge.TheVariants.{Checker, Auditor}
 use Rattle.rf_session.specs.declared.show_file.ShowFault.{ShowFault}
 use Rattle.rf_session.specs.declared.show_file.ShowFault.TheVariants as show
 use Rattle.rf_session.specs.Fetches.{Fetched, of_file, Got, found, too_large, fault, Outside, MayCome, asks_for, Brought, BroughtWithin, KeptCounts}
@@ -28,28 +32,37 @@ use Rattle.rf_session.specs.Top.{script}
 abbrev pub log_limit : ℕ
 log_limit = 268_435_456
 
--- what a log comes to over a show
-abbrev pub Judging : Type 0
-Judging = ShowData → LogData → Finding
+-- what may be found in a log over a show
+abbrev pub Judging : Type 1
+Judging = ShowData → LogData → Finding → Type 0
 
 -- a log is judged by its walk
 abbrev pub judged : Judging
-judged show log = Judged (verdict_of (case_of show) (lines_over show log))
+judged show log finding = finding ≡ Judged (verdict_of (case_of show) (lines_over show log))
 
--- the finding on a log over a show, or on a text that is no log
-abbrev pub finding_of : Judging → ShowData → Result LogData ℕ → Result Finding CheckFault
-finding_of judge show (Ok log) = Ok (judge show log)
-finding_of judge show (Err line) = Ok (LogLine line)
+-- a log is audited line by line
+abbrev pub audited : Judging
+audited show log finding = (audit : Audit) × IsAudited (case_of show) (lines_over show log) audit × (finding ≡ Audited audit)
 
--- the finding where this came of the log's file
-abbrev pub finding_on : Judging → ShowData → Got → Result Finding CheckFault
-finding_on judge show (found bytes) = finding_of judge show (log_of bytes)
-finding_on judge show too_large = Ok LogLarge
-finding_on judge show fault = Err NotFetched
+-- what a judge finds
+abbrev pub judging_of : Judge → Judging
+judging_of Checker = judged
+judging_of Auditor = audited
+
+-- a log over a show comes to this, or a text that is no log
+abbrev pub FindsOf : Judging → ShowData → Result LogData ℕ → Result Finding CheckFault → Type 0
+FindsOf judge show (Ok log) end = (finding : Finding) × judge show log finding × (end ≡ Ok finding)
+FindsOf judge show (Err line) end = end ≡ Ok (LogLine line)
+
+-- what came of the log's file comes to this
+abbrev pub FindsOn : Judging → ShowData → Got → Result Finding CheckFault → Type 0
+FindsOn judge show (found bytes) end = FindsOf judge show (log_of bytes) end
+FindsOn judge show too_large end = end ≡ Ok LogLarge
+FindsOn judge show fault end = end ≡ Err NotFetched
 
 -- the log is fetched, and judged over the show
 abbrev pub FindsInLog : Judging → ShowData → List ℕ → List Fetched → Result Finding CheckFault → Type 0
-FindsInLog judge show log last end = (got : Got) × (last ≡ of_file log got ∷ []) × (end ≡ finding_on judge show got)
+FindsInLog judge show log last end = (got : Got) × (last ≡ of_file log got ∷ []) × FindsOn judge show got end
 
 -- the lines of the show's file came to this
 abbrev pub FindsAfter : Judging → Result ShowData ShowFault → List ℕ → List Fetched → Result Finding CheckFault → Type 0

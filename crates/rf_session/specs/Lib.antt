@@ -1,4 +1,5 @@
 pub mod Checked
+pub mod Demonstrated
 pub mod Fetches
 pub mod Files
 pub mod Finding
@@ -9,6 +10,7 @@ pub mod Session
 pub mod ShowFile
 pub mod ShowLines
 pub mod Shows
+pub mod Textual
 pub mod Top
 pub mod Turn
 pub mod Unfetched

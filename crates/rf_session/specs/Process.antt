@@ -1,5 +1,5 @@
 -- All that the program does, by what its words ask for and by how it ends.
-use Rattle.std.specs.Prelude.{◌≤◌, ℕ, Bool, true, false, List, Option, Some, None, IsSomeAnd, codes, length}
+use Rattle.std.specs.Prelude.{◌≡◌, ◌≤◌, ℕ, Bool, true, false, List, Option, Some, None, IsSomeAnd, codes, length}
 use Rattle.std.specs.Io.KnownBytes.{Appends}
 use Rattle.rf_base.specs.Cause.{Rose}
 use Rattle.rf_base.specs.Piece.{AppendsPrefix}
@@ -7,9 +7,10 @@ use Rattle.rf_base.specs.Told.{WhereTold}
 use Rattle.rf_base.specs.declared.status.Status.{Status}
 use Rattle.rf_base.specs.declared.status.Status.TheVariants.{Done, Refused, Words, Read, Write, Shelf, Memory, Long}
 use Rattle.rf_words.specs.declared.asked.Asked.{Asked}
-use Rattle.rf_words.specs.declared.asked.Asked.TheVariants.{Session, Check}
+use Rattle.rf_words.specs.declared.asked.Asked.TheVariants.{Session, Check, Audit, Demo}
 use Rattle.rf_session.specs.declared.machine.Stop.TheVariants.{Write as ByWrite, Memory as ByMemory}
-use Rattle.rf_session.specs.Checked.{AsksFor, Judging, NotFound, Unjudged, Writes, WritesPart, judged}
+use Rattle.rf_session.specs.Checked.{AsksFor, Judging, NotFound, Unjudged, Writes, WritesPart, audited, judged}
+use Rattle.rf_session.specs.Demonstrated.{DemoWrites, DemoWritesPart}
 use Rattle.rf_session.specs.Fetches.{Outside}
 use Rattle.rf_session.specs.Top.{script_limit, Headline, IsReadThrough, RepliesToAll, RepliesToSome, RepliesToTaken}
 
@@ -105,6 +106,31 @@ JudgingEnds judge show log Shelf before after = NotFound judge show log before.o
 JudgingEnds judge show log Memory before after = Unjudged show log before.outside after.outside
 JudgingEnds judge show log Long before after = ⊥
 
+-- ---- a demonstration
+
+-- Its lines were written.
+pub record DemoWritten (seed count : ℕ) (before after : World) : Type 0 where
+  pub lines : DemoWrites seed count before.outside.written after.outside.written
+
+-- The output failed in them.
+pub record DemoUnwritten (seed count : ℕ) (before after : World) : Type 0 where
+  pub cause : Rose before.write_faults after.write_faults
+  pub lines : DemoWritesPart seed count before.outside.written after.outside.written
+
+-- No memory was found, and nothing was written.
+pub record DemoUnplayed (before after : World) : Type 0 where
+  pub unwritten : after.outside.written ≡ before.outside.written
+
+abbrev pub DemoEnds : ℕ → ℕ → Status → World → World → Type 0
+DemoEnds seed count Done before after = DemoWritten seed count before after
+DemoEnds seed count Refused before after = ⊥
+DemoEnds seed count Words before after = ⊥
+DemoEnds seed count Read before after = ⊥
+DemoEnds seed count Write before after = DemoUnwritten seed count before after
+DemoEnds seed count Shelf before after = ⊥
+DemoEnds seed count Memory before after = DemoUnplayed before after
+DemoEnds seed count Long before after = ⊥
+
 -- ---- all of them
 
 -- How the program ends that was asked for this: what this status says of all that it touches.
@@ -112,18 +138,24 @@ abbrev pub Ends : Option Asked → Status → World → World → Type 0
 Ends None status before after = UsageEnds status before after
 Ends (Some Session) status before after = SessionEnds status before after
 Ends (Some (Check show log)) status before after = JudgingEnds judged show log status before after
+Ends (Some (Audit show log)) status before after = JudgingEnds audited show log status before after
+Ends (Some (Demo seed count)) status before after = DemoEnds seed count status before after
 
 -- whether what is asked reads the input
 abbrev pub reads_input : Option Asked → Bool
 reads_input None = false
 reads_input (Some Session) = true
 reads_input (Some (Check show log)) = false
+reads_input (Some (Audit show log)) = false
+reads_input (Some (Demo seed count)) = false
 
 -- whether what is asked may fetch files
 abbrev pub fetches : Option Asked → Bool
 fetches None = false
 fetches (Some Session) = true
 fetches (Some (Check show log)) = true
+fetches (Some (Audit show log)) = true
+fetches (Some (Demo seed count)) = false
 
 -- ---- completeness
 
@@ -144,6 +176,8 @@ abbrev pub IsUndisturbed : Option Asked → World → World → Type 0
 IsUndisturbed None before after = Rose before.write_faults after.write_faults → ⊥
 IsUndisturbed (Some Session) before after = SessionUndisturbed before after
 IsUndisturbed (Some (Check show log)) before after = JudgingUndisturbed judged show log before after
+IsUndisturbed (Some (Audit show log)) before after = JudgingUndisturbed audited show log before after
+IsUndisturbed (Some (Demo seed count)) before after = Rose before.write_faults after.write_faults → ⊥
 
 -- the words were refused, or memory was not found
 abbrev pub IsRefused : Status → Type 0

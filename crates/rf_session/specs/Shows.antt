@@ -1,12 +1,13 @@
 -- The machine of a session: what it replies to a line, and its history after it.
-use Rattle.std.specs.Prelude.{◌≡◌, ◌≤◌, ◌&&◌, ◌⊎◌, if◌then◌else◌, nat_le, ℕ, Bool, true, false, List, take, Option, Some, None, Result, Ok, Err, ok_or, position}
+use Rattle.std.specs.Prelude.{◌≡◌, ◌≤◌, ◌+◌, ◌&&◌, ◌⊎◌, if◌then◌else◌, nat_le, nat_lt, ℕ, Bool, true, false, List, length, take, Option, Some, None, Result, Ok, Err, ok_or, position}
 use Rattle.rf_base.specs.Khz.{is_khz}
 use Rattle.rf_base.specs.declared.decimal.Decimal.{Decimal}
 use Rattle.rf_exclusions.specs.declared.scan_set.Sep.{Sep}
 use Rattle.rf_profiles.specs.declared.profile.Profile.{Profile}
 use Rattle.rf_log.specs.Solved.{Ending}
 use Rattle.rf_search.specs.declared.limits.TheConstants.{MAX_BUDGET}
-use Rattle.rf_show.specs.Show.{ShowData, is_carrier}
+use Rattle.rf_show.specs.Limits.{most_carriers}
+use Rattle.rf_show.specs.Show.{ShowData, is_carrier, is_profile}
 use Rattle.rf_show.specs.declared.edit.Edit.{Edit}
 use Rattle.rf_show.specs.declared.edit.Edit.TheVariants as edit
 use Rattle.rf_show.specs.declared.refusal.Refusal.{Refusal}
@@ -22,13 +23,19 @@ use Rattle.rf_report.specs.Csv.{csv_text_of}
 use Rattle.rf_text.specs.Free.{free_text_of}
 use Rattle.rf_report.specs.Reports.{products_text_of, report_text_of}
 use Rattle.rf_text.specs.Shows.{show_text_of}
+use Rattle.rf_zones.specs.Zones.{zone_of}
+use Rattle.rf_margin.specs.Widened.{Widened}
+use Rattle.rf_core.specs.Blocking.{Blocking}
+use Rattle.rf_spares.specs.Texts.{spares_text_of}
 use Rattle.rf_session.specs.declared.answer.Answer.{Answer}
-use Rattle.rf_session.specs.declared.answer.Answer.TheVariants.{Reply as Says, Search}
+use Rattle.rf_session.specs.declared.answer.Answer.TheVariants.{Reply as Says, Inquiry as Ask, Search}
+use Rattle.rf_session.specs.declared.inquiry.Inquiry.{Inquiry}
+use Rattle.rf_session.specs.declared.inquiry.Inquiry.TheVariants.{Widest, Locks}
 use Rattle.rf_session.specs.declared.file_fault.FileFault.{FileFault}
 use Rattle.rf_session.specs.declared.machine.Stop.{Stop}
 use Rattle.rf_session.specs.declared.machine.Stop.TheVariants.{Write, Memory}
 use Rattle.rf_session.specs.declared.reply.Code.{Code}
-use Rattle.rf_session.specs.declared.reply.Code.TheVariants.{UnknownLine as IsUnknownLine, Unknown, Number, NoStep}
+use Rattle.rf_session.specs.declared.reply.Code.TheVariants.{UnknownLine as IsUnknownLine, Unknown, Number, NoStep, Full}
 use Rattle.rf_session.specs.declared.reply.Reply.{Reply}
 use Rattle.rf_session.specs.declared.reply.Reply.TheVariants.{Accepted, Text, Error}
 use Rattle.rf_session.specs.Fetches.{Fetched, fetch_of, Got}
@@ -80,6 +87,18 @@ abbrev pub products_at : ShowData → ℕ → ℕ → Result (List ℕ) Code
 products_at show lo hi =
     if is_khz lo && is_khz hi && nat_le lo hi then Ok (products_text_of show.carriers (listed show lo hi)) else Err Number
 
+-- the most spare channels that are taken together
+abbrev pub most_spares : ℕ
+most_spares = 32
+
+-- the text of the spare channels of the profile and the zone at these places, of which so many are taken where there are
+abbrev pub spares_at : ShowData → Option ℕ → Option ℕ → ℕ → Result (List ℕ) Code
+spares_at show (Some profile) (Some zone) count =
+    if nat_lt most_spares count then Err Number
+    else (if nat_lt most_carriers (length show.carriers + count) then Err Full else Ok (spares_text_of show profile zone count))
+spares_at show (Some profile) None count = Err Unknown
+spares_at show None number count = Err Unknown
+
 -- the edit that adds the profiles of a file
 abbrev pub profiles_edit : Result (List Profile) FileFault → Result Edit FileFault
 profiles_edit (Ok list) = Ok (edit.AddProfiles list)
@@ -96,9 +115,9 @@ file_of (command.Profiles file) = Some file
 file_of (command.Scan file zone threshold width sep) = Some file
 file_of _ = None
 
--- a search with this budget; one that is out of its range is refused
-abbrev pub searching : ℕ → Bool → Answer
-searching budget places = if nat_le budget MAX_BUDGET then Search budget places else Says (Error Number)
+-- what is answered with this budget; one that is out of its range is refused
+abbrev pub within : ℕ → Answer → Answer
+within budget answer = if nat_le budget MAX_BUDGET then answer else Says (Error Number)
 
 -- What a command comes to, where this came of the file that it names; a command that names none doesn't look at it.
 abbrev pub outcome : History → Command → Got → Outcome
@@ -112,8 +131,12 @@ outcome history command.Csv got = told history (Ok (csv_text_of history.show.car
 outcome history command.Show got = told history (Ok (show_text_of history.show))
 outcome history (command.Free name) got = told history (free_at history.show (position (is_carrier name) history.show.carriers))
 outcome history (command.Products lo hi) got = told history (products_at history.show lo hi)
-outcome history (command.Solve budget) got = outcome_of (searching budget false) history
-outcome history (command.Place budget) got = outcome_of (searching budget true) history
+outcome history (command.Solve budget) got = outcome_of (within budget (Search budget false)) history
+outcome history (command.Place budget) got = outcome_of (within budget (Search budget true)) history
+outcome history (command.Widen budget) got = outcome_of (within budget (Ask (Widest budget))) history
+outcome history (command.Why budget) got = outcome_of (within budget (Ask (Locks budget))) history
+outcome history (command.Spares profile zone count) got =
+    told history (spares_at history.show (position (is_profile profile) history.show.profiles) (zone_of history.show.zones zone) count)
 outcome history command.Quit got = moved history (Ok history)
 
 -- what a line comes to; one that is in no command's grammar is refused
@@ -137,9 +160,19 @@ abbrev pub Searches : History → ℕ → Bool → Reply → History → Type 0
 Searches old n places reply new =
     (ending : Ending) × (text : List ℕ) × IsSearch old.show n ending text × (reply ≡ Text text) × LeavesAfter old places (plan_ats old.show ending) new
 
--- the reply that an answer gives, and the history after it: the reply itself, or what a search comes to
+-- what an inquiry into a show may be answered: how much wider its margins can be, or which of its locks block a plan
+abbrev pub Tells : ShowData → Inquiry → List ℕ → Type 0
+Tells show (Widest n) text = Widened show n text
+Tells show (Locks n) text = Blocking show n text
+
+-- the reply is one of the texts that may be answered
+abbrev pub IsTold : ShowData → Inquiry → Reply → Type 0
+IsTold show inquiry reply = (text : List ℕ) × Tells show inquiry text × (reply ≡ Text text)
+
+-- the reply that an answer gives, and the history after it: the reply itself, what an inquiry is told, or what a search comes to
 abbrev pub Answers : History → Answer → Reply → History → Type 0
 Answers history (Says said) reply new = (reply ≡ said) × (new ≡ history)
+Answers history (Ask inquiry) reply new = IsTold history.show inquiry reply × (new ≡ history)
 Answers history (Search n places) reply new = Searches history n places reply new
 
 abbrev pub Gives : Outcome → Reply → History → Type 0
@@ -155,9 +188,10 @@ abbrev pub Steps : History → List ℕ → Fetched → Reply → History → Ty
 Steps old line fetched reply new = Obeys old (command_of line) fetched reply new
 
 -- what may be written of an answer before it comes to an end, but of its reply: of a search a part of the text of valid lines with
--- honest branchings
+-- honest branchings. The text of an inquiry is whole before any of it is written.
 abbrev pub LogPart : History → Answer → List ℕ → Type 0
 LogPart history (Says reply) part = ⊥
+LogPart history (Ask inquiry) part = ⊥
 LogPart history (Search n places) part = (log : List ℕ) × IsBegun history.show n log × (k : ℕ) × (part ≡ take k log)
 
 -- a part of a reply that an answer may give
@@ -182,7 +216,13 @@ abbrev pub ComesTo : History → Result Command UnknownLine → Fetched → Answ
 ComesTo old said fetched answer history =
     (got : Got) × (fetched ≡ fetch_of (said_file said) got) × (answer ≡ (said_outcome old said got).answer) × (history ≡ (said_outcome old said got).history)
 
--- an answer that can be given: a search's budget is within its range
+-- the budget of an inquiry
+abbrev pub budget_of : Inquiry → ℕ
+budget_of (Widest n) = n
+budget_of (Locks n) = n
+
+-- an answer that can be given: the budget of an inquiry or a search is within its range
 abbrev pub IsGivable : Answer → Type 0
 IsGivable (Says reply) = Unit {0}
+IsGivable (Ask inquiry) = budget_of inquiry ≤ MAX_BUDGET
 IsGivable (Search n places) = n ≤ MAX_BUDGET

@@ -1,8 +1,10 @@
 //! What a command is answered.
 
-ghost use Rattle.std.specs.Prelude.{◌≡◌};
+ghost use Rattle.std.specs.Prelude.{◌≡◌, ◌≤◌};
+ghost use Rattle.rf_search.specs.declared.limits.TheConstants.{MAX_BUDGET};
 ghost use Rattle.rf_session.specs.Shows as spec;
 
+use crate::inquiry::Inquiry;
 use crate::reply::{Code, Reply};
 use rf_base::Items;
 use rf_search::MAX_BUDGET;
@@ -12,6 +14,8 @@ use rf_search::MAX_BUDGET;
 pub enum Answer {
     /// This reply.
     Reply(Reply),
+    /// What an inquiry into the show is told.
+    Inquiry(Inquiry),
     /// What a search of the show writes that has at most `budget` branchings. Where it `places`, a plan is applied as one edit.
     Search { budget: u32, places: bool },
 }
@@ -38,13 +42,14 @@ impl Answer {
         Answer::Reply(Reply::Error(code))
     }
 
-    /// A search with this budget. It is refused where the budget is out of its range.
-    pub(crate) fn searching(budget: u32, places: bool) -> Answer
-        ensures answer { result ≡ spec.searching budget places }
+    /// This answer, which has this budget. It is refused where the budget is out of its range.
+    pub(crate) fn within(budget: u32, answer: Answer) -> Answer
+        requires { budget ≤ MAX_BUDGET → spec.IsGivable answer }
+        ensures answer { result ≡ spec.within budget answer }
         ensures givable { spec.IsGivable result }
     {
         if budget <= MAX_BUDGET {
-            Answer::Search { budget, places }
+            answer
         } else {
             Answer::refused(Code::Number)
         }

@@ -3,10 +3,13 @@
 
 mod answer;
 mod check;
+mod demo;
 mod file;
 mod file_edit;
 mod file_fault;
 mod finding;
+mod inquiry;
+mod judge;
 mod machine;
 mod reply;
 mod search;

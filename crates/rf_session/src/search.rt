@@ -9,12 +9,14 @@ ghost use Rattle.rf_solving.specs.Placing.{IsAdmitted};
 ghost use Rattle.rf_session.specs.declared.answer.Answer.{Answer};
 ghost use Rattle.rf_session.specs.Run.{Writes, WritesPart};
 ghost use Rattle.rf_session.specs.Shows as spec;
+ghost use Rattle.rf_session.specs.Textual.{AreTextual};
 
 use crate::machine::Stop;
 use rf_base::{Failed, Items, Khz, NoMemory, Sink, put};
 use rf_editor::{EditFault, Editor};
 use rf_show::Edit;
 use rf_solving::{Found, SolveFault, plan_is_admitted, write_search};
+use rf_text::edits_stay_textual;
 use std::alloc::Global;
 
 /// Searches for a plan of the show with at most `budget` branchings, and writes the log and the verdict. Where it `places`,
@@ -31,6 +33,7 @@ pub(crate) fn search<O: Sink>(
     ensures cut { IfErr result (λ stop. WritesPart (spec.AnswerPart stop editor.old (Answer.Search budget places)) (O.contents output.old) (O.contents output.new)) }
     ensures later { O.faults output.old ≤ O.faults output.new }
     ensures fault { result ≡ Err Stop.Write → Rose (O.faults output.old) (O.faults output.new) }
+    ensures textual { AreTextual editor.old → AreTextual editor.new }
 {
     plan_is_admitted();
     let found = match write_search(alloc, editor.show(), budget, output) {
@@ -49,13 +52,15 @@ pub(crate) fn search<O: Sink>(
 }
 
 /// Gives the carriers the frequencies of a plan, where there is one and it is placed.
+#[tactic(auto, using(crate::proofs::TextualLaws::edited_are))]
 fn apply_plan(
     editor: &mut Editor,
     places: bool,
     ats: Option<Items<Option<Khz>>>,
 ) -> Result<(), NoMemory>
     requires { (at : List (Option ℕ)) → ats ≡ Some at → IsAdmitted editor.old.show (Edit.Place at) }
-    ensures { OnOk result (spec.LeavesAfter editor.old places ats editor.new) }
+    ensures leaves { OnOk result (spec.LeavesAfter editor.old places ats editor.new) }
+    ensures textual { AreTextual editor.old → AreTextual editor.new }
 {
     if !places {
         return Ok(());
@@ -63,6 +68,7 @@ fn apply_plan(
     let Some(at) = ats else {
         return Ok(());
     };
+    edits_stay_textual();
     match editor.apply(Edit::Place { at }) {
         Ok(()) => Ok(()),
         Err(EditFault::Refused(_)) => unreachable!(),

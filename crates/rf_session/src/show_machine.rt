@@ -3,10 +3,12 @@
 ghost use Rattle.std.specs.Prelude.{◌≡◌, ◌≢◌, ◌≤◌, ℕ, List, Ok, Err, None, Some, IfOk, IfErr, OnOk, IsTrue, position};
 ghost use Rattle.std.specs.declared.option.Option.{Option};
 ghost use Rattle.rf_base.specs.Cause.{Rose};
-ghost use Rattle.rf_show.specs.Show.{is_carrier};
+ghost use Rattle.rf_show.specs.Show.{is_carrier, is_profile};
 ghost use Rattle.rf_editor.specs.History.{first_history};
 ghost use Rattle.rf_show.specs.After.{is_edit};
 ghost use Rattle.rf_text.specs.Commands.{IsAskable};
+ghost use Rattle.rf_search.specs.declared.limits.TheConstants.{MAX_BUDGET};
+ghost use Rattle.rf_session.specs.declared.answer.Answer.{Answer};
 ghost use Rattle.rf_session.specs.Fetches.{fault, outside, shelf_alone, Obeyed};
 ghost use Rattle.rf_session.specs.Run.{IsCut, Replied, Writes, WritesPart};
 ghost use Rattle.rf_session.specs.Shows as spec;
@@ -15,18 +17,25 @@ use crate::answer::Answer;
 use crate::file::fetch_file;
 use crate::file_edit::{profiles_edit, scan_edit};
 use crate::file_fault::{FileFault, refuse_file};
+use crate::inquiry::{Inquiry, inquire};
 use crate::machine::{Machine, Stop};
 use crate::reply::{Code, say};
 use crate::search::search;
 use rf_base::{Khz, Name, NoMemory, Shelf, Sink};
 use rf_editor::{EditFault, Editor, StepFault};
+use rf_profiles::Profile;
 use rf_report::{csv_text, products_text, report_text};
-use rf_show::{Carrier, Edit};
-use rf_text::{Command, UnknownLine, free_text, read_command, show_text};
+use rf_show::{Carrier, Edit, Show};
+use rf_spares::{spares, spares_text};
+use rf_text::{Command, UnknownLine, edits_stay_textual, free_text, read_command, show_text};
 use std::alloc::Global;
 use std::marker::Model;
 
-/// A show with its history, and what answers lines from it.
+/// The most spare channels that are taken together.
+const MOST_SPARES: u32 = 32;
+
+/// A show with its history, and what answers lines from it. Each show of the history was made by lines and files, so that it can be
+/// raised.
 #[derive(Drop)]
 pub struct ShowMachine {
     alloc: Global,
@@ -35,21 +44,33 @@ pub struct ShowMachine {
 
 impl Model for ShowMachine {
     ghost use Rattle.rf_editor.specs.History.{History};
+    ghost use Rattle.rf_session.specs.Textual.{AreTextual};
 
     ghost Value = { History };
 
     ghost view = { λ machine. machine.editor };
+
+    ghost invariant = { λ machine. AreTextual machine.editor };
 }
 
 impl ShowMachine {
     /// The machine of the first show, without a history.
+    #[tactic(auto, using(crate::proofs::TextualLaws::first_are))]
     pub fn new(alloc: Global) -> Result<ShowMachine, NoMemory>
         ensures { IfOk result (λ machine. machine ≡ first_history) }
     {
+        edits_stay_textual();
         Ok(ShowMachine {
             alloc,
             editor: Editor::new(alloc)?,
         })
+    }
+
+    /// The show as it stands, with its history.
+    pub(crate) fn editor(&self) -> &Editor
+        ensures { result.now ≡ self.now }
+    {
+        &self.editor
     }
 
     /// Does what a command asks for, and writes what it is answered. A file that the command names is fetched first.
@@ -85,10 +106,25 @@ impl ShowMachine {
     {
         match answer {
             Answer::Reply(reply) => say(output, &reply),
+            Answer::Inquiry(inquiry) => self.tell(inquiry, output),
             Answer::Search { budget, places } => {
                 search(self.alloc, &mut self.editor, budget, places, output)
             }
         }
+    }
+
+    /// Writes what an inquiry into the show is told.
+    fn tell<O: Sink>(&self, inquiry: Inquiry, output: &mut O) -> Result<bool, Stop>
+        requires { spec.budget_of inquiry ≤ MAX_BUDGET }
+        ensures given { IfOk result (Writes (λ reply. spec.Answers self.now (Answer.Inquiry inquiry) reply self.now) (O.contents output.old) (O.contents output.new)) }
+        ensures cut { IfErr result (λ stop. WritesPart (spec.AnswerPart stop self.now (Answer.Inquiry inquiry)) (O.contents output.old) (O.contents output.new)) }
+        ensures later { O.faults output.old ≤ O.faults output.new }
+        ensures fault { result ≡ Err Stop.Write → Rose (O.faults output.old) (O.faults output.new) }
+    {
+        let Ok(reply) = inquire(self.alloc, self.editor.show(), inquiry) else {
+            return Err(Stop::Memory);
+        };
+        say(output, &reply)
     }
 
     /// Does what a command asks for, up to a search, and gives what it is answered.
@@ -124,8 +160,15 @@ impl ShowMachine {
             Command::Show => self.show(),
             Command::Free { name } => self.free(name),
             Command::Products { lo, hi } => self.products(lo, hi),
-            Command::Solve { budget } => Ok(Answer::searching(budget, false)),
-            Command::Place { budget } => Ok(Answer::searching(budget, true)),
+            Command::Solve { budget } => Ok(searching(budget, false)),
+            Command::Place { budget } => Ok(searching(budget, true)),
+            Command::Widen { budget } => Ok(inquiring(budget, Inquiry::Widest { budget })),
+            Command::Why { budget } => Ok(inquiring(budget, Inquiry::Locks { budget })),
+            Command::Spares {
+                profile,
+                zone,
+                count,
+            } => self.spares(profile, zone, count),
             Command::Quit => Ok(Answer::accepted()),
         }
     }
@@ -144,11 +187,13 @@ impl ShowMachine {
     }
 
     /// Makes an edit, or refuses it.
+    #[tactic(auto, using(crate::proofs::TextualLaws::edited_are))]
     fn change(&mut self, edit: Edit) -> Result<Answer, NoMemory>
         requires { IsTrue (is_edit edit) }
         ensures answer { IfOk result (λ answer. answer ≡ (spec.edited self.old edit).answer) }
         ensures history { IfOk result (λ answer. self.new ≡ (spec.edited self.old edit).history) }
     {
+        edits_stay_textual();
         match self.editor.apply(edit) {
             Ok(()) => Ok(Answer::accepted()),
             Err(EditFault::Refused(refusal)) => Ok(Answer::refused(Code::from(refusal))),
@@ -156,6 +201,7 @@ impl ShowMachine {
         }
     }
 
+    #[tactic(auto, using(crate::proofs::TextualLaws::undone_are))]
     fn undo(&mut self) -> Result<Answer, NoMemory>
         ensures answer { IfOk result (λ answer. answer ≡ (spec.outcome self.old Command.Undo fault).answer) }
         ensures history { IfOk result (λ answer. self.new ≡ (spec.outcome self.old Command.Undo fault).history) }
@@ -167,6 +213,7 @@ impl ShowMachine {
         }
     }
 
+    #[tactic(auto, using(crate::proofs::TextualLaws::redone_are))]
     fn redo(&mut self) -> Result<Answer, NoMemory>
         ensures answer { IfOk result (λ answer. answer ≡ (spec.outcome self.old Command.Redo fault).answer) }
         ensures history { IfOk result (λ answer. self.new ≡ (spec.outcome self.old Command.Redo fault).history) }
@@ -231,6 +278,54 @@ impl ShowMachine {
             None => Ok(Answer::refused(Code::Unknown)),
         }
     }
+
+    /// The channels of a profile on which a further carrier could be added in a zone, and up to `count` of them that could be added
+    /// together.
+    fn spares(&self, profile: Name, zone: Name, count: u32) -> Result<Answer, NoMemory>
+        ensures answer { IfOk result (λ answer. answer ≡ (spec.outcome self.now (Command.Spares profile zone count) fault).answer) }
+        ensures stays { (spec.outcome self.now (Command.Spares profile zone count) fault).history ≡ self.now }
+    {
+        let show = self.editor.show();
+        let Some(place) = profile_place(show.profiles(), profile) else {
+            return Ok(Answer::refused(Code::Unknown));
+        };
+        let Some(number) = show.zones().find(zone) else {
+            return Ok(Answer::refused(Code::Unknown));
+        };
+        if count > MOST_SPARES {
+            return Ok(Answer::refused(Code::Number));
+        }
+        if show.carriers().len() + count as usize > Show::MAX_CARRIERS {
+            return Ok(Answer::refused(Code::Full));
+        }
+        let found = spares(self.alloc, show, place, number, count)?;
+        let text = spares_text(self.alloc, show, place, &found)?;
+        Ok(Answer::text(text))
+    }
+}
+
+/// A search with this budget.
+fn searching(budget: u32, places: bool) -> Answer
+    ensures answer { result ≡ spec.within budget (Answer.Search budget places) }
+    ensures givable { spec.IsGivable result }
+{
+    Answer::within(budget, Answer::Search { budget, places })
+}
+
+/// An inquiry with this budget.
+fn inquiring(budget: u32, inquiry: Inquiry) -> Answer
+    requires { spec.budget_of inquiry ≡ budget }
+    ensures answer { result ≡ spec.within budget (Answer.Inquiry inquiry) }
+    ensures givable { spec.IsGivable result }
+{
+    Answer::within(budget, Answer::Inquiry(inquiry))
+}
+
+/// The place of the profile of a name.
+fn profile_place(profiles: &[Profile], name: Name) -> Option<usize>
+    ensures { result ≡ position (is_profile name) profiles.now }
+{
+    profiles.iter().position(|profile| profile.name == name)
 }
 
 /// The place of the carrier of a name.

@@ -10,6 +10,8 @@ ghost use Rattle.rf_session.specs.Words.{asks};
 ghost use Rattle.rf_words.specs.Words.{HasPlain, IsPlain};
 
 use crate::check::check;
+use crate::demo::demonstrate;
+use crate::judge::Judge;
 use crate::session::serve;
 use crate::show_machine::ShowMachine;
 use crate::words::refuse_words;
@@ -28,17 +30,25 @@ use std::alloc::Global;
 /// comment or empty; then the file LOG is fetched and judged over that show. One line is written. No byte of the input is
 /// taken.
 ///
+/// The words `audit SHOW LOG` audit a log: the same files are fetched, and the first line of the log that is invalid or a dishonest
+/// branching is found. One line is written. No byte of the input is taken.
+///
+/// The words `demo SEED COUNT` run a script that a number makes: three lines, and `COUNT` that are drawn from `SEED`. Four lines are
+/// written: how many lines the script has, how many of them were refused, and how many carriers and conflicts the show has at the end.
+/// No byte of the input is taken, and no file is fetched.
+///
 /// Other words do the same where `clap` takes them and reads these words from them. All other words are no command:
 /// `error usage` is written, and nothing is read.
 ///
 /// - `Done`, `Refused`: the session came to its end, and no line, or one, was refused. The check wrote `refuted`, or
-///   another line.
+///   another line; the audit `honest`, or another line. The demonstration wrote its lines, which is `Done`.
 /// - `Words`: the words are no command.
 /// - `Read`: the input of a session failed. The replies to all lines whose line feed was read are written.
-/// - `Write`: the output failed. A prefix of the replies, or of the check's line, is written.
-/// - `Shelf`: a file for which a check asked failed, and nothing is written.
-/// - `Memory`: no memory was found. In a session whole replies are written, and at most a part of the next one; in a check
-///   nothing is written. Where the words could not be read for want of memory, nothing is read or written.
+/// - `Write`: the output failed. A prefix of the replies, of the line of a check or an audit, or of the lines of a
+///   demonstration is written.
+/// - `Shelf`: a file for which a check or an audit asked failed, and nothing is written.
+/// - `Memory`: no memory was found. In a session whole replies are written, and at most a part of the next one; in the other
+///   commands nothing is written. Where the words could not be read for want of memory, nothing is read or written.
 /// - `Long`: the input of a session has more than 67,108,864 bytes. The replies to all lines that end within these are
 ///   written.
 pub fn run<I: Source, F: Shelf, O: Sink>(
@@ -109,7 +119,27 @@ fn do_asked<I: Source, F: Shelf, O: Sink>(
 {
     match read_words(alloc, words) {
         Ok(Asked::Session) => session(alloc, input, shelf, output),
-        Ok(Asked::Check { show, log }) => check(alloc, show.as_str(), log.as_str(), shelf, output),
+        Ok(Asked::Check { show, log }) => {
+            check(
+                alloc,
+                Judge::Checker,
+                show.as_str(),
+                log.as_str(),
+                shelf,
+                output,
+            )
+        }
+        Ok(Asked::Audit { show, log }) => {
+            check(
+                alloc,
+                Judge::Auditor,
+                show.as_str(),
+                log.as_str(),
+                shelf,
+                output,
+            )
+        }
+        Ok(Asked::Demo { seed, count }) => demonstrate(alloc, seed, count, output),
         Err(WordsFault::Usage) => refuse_words(output),
         Err(WordsFault::Memory) => Status::Memory,
     }

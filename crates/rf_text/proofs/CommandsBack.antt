@@ -1,64 +1,63 @@
 -- The line of a command is read back as the command.
-use Rattle.std.proofs.Common.{◌≡◌, ℕ, List, [], ◌∷◌, Bool, true, refl, Some, None, Ok, subst}
-use Rattle.std.specs.Prelude.{IfSome, option_and_then, option_map, ok_or}
+use Rattle.std.proofs.Common.{◌≡◌, ℕ, List, [], ◌∷◌, Bool, true, false, refl, rules, Some, None, Ok, subst}
+use Rattle.std.specs.Prelude.{IfSome, find, if◌then◌else◌, option_and_then, option_map, ok_or}
 use Rattle.std.specs.declared.option.Option.{Option}
 use Rattle.std.proofs.lemmas.Option.{IfSome_then}
-use Rattle.std.specs.List.{list_all}
+use Rattle.std.specs.List.{AllByRecursion, list_all}
+use Rattle.std.specs.Str.{bytes_eq}
 use Rattle.rf_base.specs.Lines.{joined}
 use Rattle.rf_show.specs.After.{is_edit}
 use Rattle.rf_text.specs.declared.command.Command.{Command}
 use Rattle.rf_text.specs.declared.command.Command.TheVariants.{Change}
 use Rattle.rf_text.specs.declared.command.UnknownLine.{UnknownLine}
-use Rattle.rf_text.specs.declared.verb.Verb.{Verb}
-use Rattle.rf_text.specs.declared.verb.Verb.TheVariants as verb
-use Rattle.rf_text.specs.Commands.{command_in, command_of, command_with, row_of, IsAskable}
+use Rattle.rf_text.specs.Commands.{command_by, command_in, command_of, command_rows, command_with, edit_rows, edit_by, with_row, IsAskable}
 use Rattle.rf_text.specs.CommandTexts.{command_text_of, command_words}
-use Rattle.rf_text.specs.Shapes.{Row, ◌makes◌, ◌changes◌, Shape, Values, applied, command_read, values}
-use Rattle.rf_text.specs.Verbs.{text_of, verb_of}
+use Rattle.rf_text.specs.Shapes.{Row, Values, made, row_of, row_read, values}
 use Rattle.rf_text.specs.Words.{is_word}
-use Rattle.rf_text.proofs.OperandsBack.{Says, if_map}
+use Rattle.rf_text.specs.Words.{words_of as words_in}
+use Rattle.rf_text.proofs.OperandsBack.{if_map}
 use Rattle.rf_text.proofs.ShapesBack.{AreValues, values_back, values_read, words_of}
 use Rattle.rf_text.proofs.WordsBack.{words_back}
 
 -- ---- rows
 
-abbrev pub shape_of : Row → Shape
-shape_of (shape makes make) = shape
-shape_of (shape changes make) = shape
+made_back : {Made : Type 0} (row : Row Made) (w : Values row.shape) → AreValues row.shape w → row_read row (words_of row.shape w) ≡ Some (made row w)
+made_back row w h = let back = values_back row.shape w h in rw back.read refl
 
-abbrev pub made : (row : Row) → Values (shape_of row) → Command
-made (shape makes make) w = applied shape make w
-made (shape changes make) w = Change (applied shape make w)
+if_row : {Made : Type 0} (P : Made → Type 0) (row : Row Made) → ((w : Values row.shape) → AreValues row.shape w → P (made row w)) → (words : List (List ℕ)) → IfSome (row_read row words) P
+if_row P row each words = if_map (made row) P (values row.shape words) (IfSome_then (values row.shape words) (values_read row.shape words) each)
 
-made_back : (row : Row) (w : Values (shape_of row)) → AreValues (shape_of row) w → command_read row (words_of (shape_of row) w) ≡ Some (made row w)
-made_back (shape makes make) w h = let back = values_back shape w h in rw back.read refl
-made_back (shape changes make) w h = let back = values_back shape w h in rw back.read refl
+found_if : {A : Type 0} (P : A → Type 0) (test : Bool) (x : A) (o : Option A) → P x → IfSome o P → IfSome (if test then Some x else o) P
+found_if P true x o h k = h
+found_if P false x o h k = k
 
-if_row : (P : Command → Type 0) (row : Row) → ((w : Values (shape_of row)) → AreValues (shape_of row) w → P (made row w)) → (words : List (List ℕ)) → IfSome (command_read row words) P
-if_row P (shape makes make) each words = if_map (applied shape make) P (values shape words) (IfSome_then (values shape words) (values_read shape words) each)
-if_row P (shape changes make) each words =
-    if_map Change P (option_map (applied shape make) (values shape words)) (if_map (applied shape make) (λ edit. P (Change edit)) (values shape words)
-    (IfSome_then (values shape words) (values_read shape words) each))
+-- what holds of each row holds of the row of a word
+found : {A : Type 0} (P : A → Type 0) (test : A → Bool) (xs : List A) → AllByRecursion P xs → IfSome (find test xs) P
+found P test [] h = tt
+found P test (x ∷ xs) h = found_if P (test x) x (find test xs) h.0 (found P test xs h.1)
 
--- ---- what holds of each verb: its row alone says it
+all_then : {A : Type 0} (P Q : A → Type 0) (xs : List A) → ((x : A) → P x → Q x) → AllByRecursion P xs → AllByRecursion Q xs
+all_then P Q [] f h = tt
+all_then P Q (x ∷ xs) f h = (f x h.0, all_then P Q xs f h.1)
 
-verb_back : (v : Verb) → Says verb_of (text_of v) (Some v)
-unfolding verb_of
-verb_back verb.Profile = record { read = refl; valid = refl }
-verb_back _ = record { read = refl; valid = refl }
-
--- a command is written as its row says
-row_words : (v : Verb) (w : Values (shape_of (row_of v))) → command_words (made (row_of v) w) ≡ text_of v ∷ words_of (shape_of (row_of v)) w
-row_words verb.Profile w = refl
-row_words _ w = refl
+-- ---- what holds of each row: the row alone says it
 
 abbrev is_askable : Command → Bool
 is_askable (Change edit) = is_edit edit
 is_askable _ = true
 
-row_askable : (v : Verb) (w : Values (shape_of (row_of v))) → is_askable (made (row_of v) w) ≡ true
-row_askable verb.Profile w = refl
-row_askable _ w = refl
+-- A row is found by its first word, and what it makes is written as the row says and can be asked of a show.
+abbrev IsLine : {Made : Type 0} → (Made → Command) → (Option Made → Option Command) → Row Made → Type 0
+IsLine command read row =
+    ((operands : List (List ℕ)) → command_by row.verb operands ≡ read (row_read row operands)) × ((is_word row.verb ≡ true)
+    × (((w : Values row.shape) → command_words (command (made row w)) ≡ row.verb ∷ words_of row.shape w)
+    × ((w : Values row.shape) → is_askable (command (made row w)) ≡ true)))
+
+edits : AllByRecursion (IsLine Change (option_map Change)) edit_rows
+edits = search rules
+
+commands : AllByRecursion (IsLine (λ command. command) (λ read. read)) command_rows
+commands = search rules
 
 -- ---- all commands
 
@@ -67,29 +66,60 @@ pub record IsBack (command : Command) : Type 0 where
   pub read : command_with (command_words command) ≡ Some command
   pub valid : list_all is_word (command_words command) ≡ true
 
-back_by : (v : Verb) (operands : List (List ℕ)) (command : Command) → command_words command ≡ text_of v ∷ operands
-    → list_all is_word operands ≡ true → command_read (row_of v) operands ≡ Some command → IsBack command
-back_by v operands command h valid read =
-    let first = verb_back v in
-    record { read = rw (h, first.read) read; valid = rw (h, first.valid) valid }
+-- what holds of each command that a row can make
+abbrev Makes : {Made : Type 0} → (Command → Type 0) → (Made → Command) → Row Made → Type 0
+Makes P command row = (w : Values row.shape) → AreValues row.shape w → P (command (made row w))
 
-pub row_back : (v : Verb) (w : Values (shape_of (row_of v))) → AreValues (shape_of (row_of v)) w → IsBack (made (row_of v) w)
-row_back v w h =
-    let back = values_back (shape_of (row_of v)) w h in
-    back_by v (words_of (shape_of (row_of v)) w) (made (row_of v) w) (row_words v w) back.valid (made_back (row_of v) w h)
+line_back : {Made : Type 0} (command : Made → Command) (read : Option Made → Option Command) → ((x : Made) → read (Some x) ≡ Some (command x))
+    → (row : Row Made) → IsLine command read row → Makes IsBack command row
+line_back command read same row line w h =
+    let back = values_back row.shape w h in
+    let words = line.1.1.0 w in
+    record {
+      read = rw (words, line.0 (words_of row.shape w), made_back row w h) (same (made row w));
+      valid = rw (words, line.1.0, back.valid) refl;
+    }
+
+edits_back : AllByRecursion (Makes IsBack Change) edit_rows
+edits_back = all_then (IsLine Change (option_map Change)) (Makes IsBack Change) edit_rows (line_back Change (option_map Change) (λ x. refl)) edits
+
+commands_back : AllByRecursion (Makes IsBack (λ command. command)) command_rows
+commands_back = all_then (IsLine (λ command. command) (λ read. read)) (Makes IsBack (λ command. command)) command_rows (line_back (λ command. command) (λ read. read) (λ x. refl)) commands
+
+-- the command of a first word and of its operands is read back
+pub edit_back : (verb : List ℕ) → IfSome (row_of edit_rows verb) (Makes IsBack Change)
+edit_back verb = found (Makes IsBack Change) (λ row. bytes_eq verb row.verb) edit_rows edits_back
+
+pub command_row_back : (verb : List ℕ) → IfSome (row_of command_rows verb) (Makes IsBack (λ command. command))
+command_row_back verb = found (Makes IsBack (λ command. command)) (λ row. bytes_eq verb row.verb) command_rows commands_back
 
 if_any : {A B : Type 0} (next : A → Option B) (Q : B → Type 0) (o : Option A) → ((x : A) → IfSome (next x) Q) → IfSome (option_and_then next o) Q
 if_any next Q None k = tt
 if_any next Q (Some x) k = k x
 
+if_found : {A B : Type 0} (next : A → Option B) (P : A → Type 0) (Q : B → Type 0) (o : Option A) → IfSome o P → ((x : A) → P x → IfSome (next x) Q) → IfSome (option_and_then next o) Q
+if_found next P Q None h k = tt
+if_found next P Q (Some x) h k = k x h
+
 -- what holds of the command of each row holds of that of each line
-module _ (P : Command → Type 0) (each : (v : Verb) (w : Values (shape_of (row_of v))) → AreValues (shape_of (row_of v)) w → P (made (row_of v) w)) where
-  with_row : (words : List (List ℕ)) → IfSome (command_with words) P
-  with_row [] = tt
-  with_row (word ∷ operands) = if_any (λ v. command_read (row_of v) operands) P (verb_of word) (λ v. if_row P (row_of v) (each v) operands)
+module _ (P : Command → Type 0) (of_edits : AllByRecursion (Makes P Change) edit_rows) (of_commands : AllByRecursion (Makes P (λ command. command)) command_rows) where
+  with_edit : (verb : List ℕ) (operands : List (List ℕ)) → IfSome (option_map Change (edit_by verb operands)) P
+  with_edit verb operands =
+      if_map Change P (edit_by verb operands)
+      (if_found (λ row. row_read row operands) (Makes P Change) (λ edit. P (Change edit)) (row_of edit_rows verb)
+      (found (Makes P Change) (λ row. bytes_eq verb row.verb) edit_rows of_edits) (λ row each. if_row (λ edit. P (Change edit)) row each operands))
+
+  with_any : (o : Option (Row Command)) (verb : List ℕ) (operands : List (List ℕ)) → IfSome o (Makes P (λ command. command)) → IfSome (with_row o verb operands) P
+  with_any (Some row) verb operands each = if_row P row each operands
+  with_any None verb operands each = with_edit verb operands
+
+  with_words : (words : List (List ℕ)) → IfSome (command_with words) P
+  with_words [] = tt
+  with_words (word ∷ operands) =
+      with_any (row_of command_rows word) word operands (found (Makes P (λ command. command)) (λ row. bytes_eq word row.verb) command_rows of_commands)
 
   of_line : (line : List ℕ) → IfSome (command_in line) P
-  of_line line = if_any command_with P _ with_row
+  of_line line = if_any command_with P (words_in line) with_words
 
 askable : (command : Command) → is_askable command ≡ true → IsAskable command
 askable (Change edit) h = h
@@ -97,20 +127,23 @@ askable _ h = tt
 
 -- what a line says can be asked of a show
 pub line_askable : (line : List ℕ) (command : Command) → Some command ≡ command_in line → IsAskable command
-line_askable line command is = let all = of_line IsAskable (λ v w _. askable _ (row_askable v w)) line in rw (← is) at all
+line_askable line command is =
+    let all = of_line IsAskable (all_then (IsLine Change (option_map Change)) (Makes IsAskable Change) edit_rows (λ row line w _. askable (Change (made row w)) (line.1.1.1 w)) edits)
+    (all_then (IsLine (λ command. command) (λ read. read)) (Makes IsAskable (λ command. command)) command_rows (λ row line w _. askable (made row w) (line.1.1.1 w)) commands) line in
+    rw (← is) at all
 
 from_ok : (P : Command → Type 0) (o : Option Command) (e : UnknownLine) (command : Command) → IfSome o P → ok_or o e ≡ Ok command → P command
 from_ok P None e command h is = cc
 from_ok P (Some c) e command h is = let same : c ≡ command = cc in subst P same h
 
-line_back : (words : List (List ℕ)) (command : Command) → list_all is_word words ≡ true → command_with words ≡ Some command → command_of (joined words) ≡ Ok command
+joined_back : (words : List (List ℕ)) (command : Command) → list_all is_word words ≡ true → command_with words ≡ Some command → command_of (joined words) ≡ Ok command
 unfolding command_of
-line_back [] command valid read = cc
-line_back (word ∷ words) command valid read = rw (words_back word words valid, read) refl
+joined_back [] command valid read = cc
+joined_back (word ∷ words) command valid read = rw (words_back word words valid, read) refl
 
 -- a command that some line has is read back from its line
 pub command_back : (command : Command) (line : List ℕ) → command_of line ≡ Ok command → command_of (command_text_of command) ≡ Ok command
 unfolding command_of
 command_back command line is =
-    let back = from_ok IsBack (command_in line) _ command (of_line IsBack row_back line) is in
-    line_back (command_words command) command back.valid back.read
+    let back = from_ok IsBack (command_in line) _ command (of_line IsBack edits_back commands_back line) is in
+    joined_back (command_words command) command back.valid back.read

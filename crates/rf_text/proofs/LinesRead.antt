@@ -1,6 +1,6 @@
 -- The lines of a show's text are read as its commands.
 use Rattle.std.proofs.Common.{◌≡◌, ◌<◌, ◌≤◌, ◌+◌, ◌-◌, ◌++◌, ◌∙◌, ℕ, zero, suc, List, [], ◌∷◌, ◌&&◌, Bool, true, false, length, map, filter, drop, get_or, arith, refl, Some, None}
-use Rattle.std.specs.Prelude.{nat_le, nat_lt, IfSome, if◌then◌else◌, option_and_then}
+use Rattle.std.specs.Prelude.{codes, nat_le, nat_lt, IfSome, if◌then◌else◌, option_and_then}
 use Rattle.std.specs.declared.option.Option.{Option}
 use Rattle.std.specs.List.{AllByRecursion, list_all, flat_map, range_with_len}
 use Rattle.std.proofs.lemmas.Bool.{and_parts}
@@ -28,8 +28,7 @@ use Rattle.rf_base.specs.Lines.{joined}
 use Rattle.rf_text.specs.ShowLaw.{HotPointsOf, IsBan, IsCarrier, IsProfile, IsScan, IsShowOver, LinesMakeShow, after_command, after_lines}
 use Rattle.rf_text.specs.Shows.{at_lines, carrier_lines, couple_lines, coupling_edit, far_lines, lock_lines, pair_line, pairs_that, pairs_with, profile_lines, range_line, ranges_lines, scan_line, show_lines, stand, time_line, zone_line, zone_name, ban_line}
 use Rattle.rf_text.specs.Words.{is_word}
-use Rattle.rf_text.proofs.CommandsBack.{IsBack, row_back}
-use Rattle.rf_text.specs.declared.verb.Verb.TheVariants as verb
+use Rattle.rf_text.proofs.CommandsBack.{IsBack, command_row_back, edit_back}
 use Rattle.rf_text.proofs.ShapesBack.{AreShort, IsFiled, IsNamed, IsShort}
 use Rattle.rf_text.proofs.MadeLemmas.{made}
 use Rattle.rf_text.proofs.ProfilesMade.{is_worded}
@@ -112,9 +111,9 @@ zone_named : (zones : ZonesData) (z : ℕ) → AllByRecursion IsName zones.names
 zone_named zones z h inside = named _ (all_at IsName zones.names z [] h inside)
 
 pair_said : (c : Coupling) (a b : List ℕ) → IsNamed a → IsNamed b → IsBack (Change (coupling_edit c a b))
-pair_said Apart a b h k = row_back verb.Uncouple (a, b) (h, k)
-pair_said Coupled a b h k = row_back verb.Couple (a, b) (h, k)
-pair_said Far a b h k = row_back verb.Far (a, b) (h, k)
+pair_said Apart a b h k = edit_back (codes "uncouple") (a, b) (h, k)
+pair_said Coupled a b h k = edit_back (codes "couple") (a, b) (h, k)
+pair_said Far a b h k = edit_back (codes "far") (a, b) (h, k)
 
 pairs_with_said : (c : Coupling) (zones : ZonesData) → AllByRecursion IsName zones.names → (a : ℕ) → a < length zones.names → AllByRecursion IsBack (pairs_with c zones a)
 pairs_with_said c zones names a inside =
@@ -123,7 +122,7 @@ pairs_with_said c zones names a inside =
     (λ b h. pair_said c _ _ (zone_named zones a names inside) (zone_named zones b names h))
 
 zones_said : (zones : ZonesData) → AllByRecursion IsName zones.names → AllByRecursion IsBack (map zone_line (drop 1 zones.names))
-zones_said zones names = all_map IsName IsBack zone_line (drop 1 zones.names) (all_drop IsName 1 zones.names names) (λ name n. row_back verb.Zone name (named name n))
+zones_said zones names = all_map IsName IsBack zone_line (drop 1 zones.names) (all_drop IsName 1 zones.names names) (λ name n. edit_back (codes "zone") name (named name n))
 
 pairs_said : (c : Coupling) (zones : ZonesData) → AllByRecursion IsName zones.names → AllByRecursion IsBack (pairs_that c zones)
 pairs_said c zones names =
@@ -141,8 +140,8 @@ rises_all last (r ∷ ranges) h = (h.0, rises_all r.to ranges h.2)
 ranges_said : (p : Profile) (ranges : List Span) → IsName p.name → is_worded p ≡ true → AllByRecursion IsRange ranges → AllByRecursion IsBack (ranges_lines p ranges)
 ranges_said p [] name worded h = tt
 ranges_said p (r ∷ ranges) name worded h = (
-  row_back verb.Profile (p.name, r.from ∷ r.to ∷ r.step ∷ widths p) (named p.name name, (refl, (short r.from h.0.low, (short r.to h.0.high, (short r.step h.0.stride, widths_short (widths p) worded))))),
-  all_map IsRange IsBack (range_line p.name) ranges h.1 (λ q v. row_back verb.Range (p.name, (q.from, (q.to, q.step))) (named p.name name, (short q.from v.low, (short q.to v.high, short q.step v.stride)))),
+  edit_back (codes "profile") (p.name, r.from ∷ r.to ∷ r.step ∷ widths p) (named p.name name, (refl, (short r.from h.0.low, (short r.to h.0.high, (short r.step h.0.stride, widths_short (widths p) worded))))),
+  all_map IsRange IsBack (range_line p.name) ranges h.1 (λ q v. edit_back (codes "range") (p.name, (q.from, (q.to, q.step))) (named p.name name, (short q.from v.low, (short q.to v.high, short q.step v.stride)))),
 )
 
 profiles_said : (profiles : List Profile) → list_all is_worded profiles ≡ true → AllByRecursion IsProfile profiles → AllByRecursion IsBack (flat_map profile_lines profiles)
@@ -159,7 +158,7 @@ scan_said : (zones : ZonesData) (hot : HotPointsOf) (scan : ScanSet) → is_scan
 scan_said zones hot scan valid h =
     let p = and_parts (has_zone zones scan.zone && is_threshold scan.threshold) (nat_le scan.width widest_scan) valid in
     let q = and_parts (has_zone zones scan.zone) (is_threshold scan.threshold) p.0 in
-    row_back verb.Scan (scan.file, (scan.zone, (scan.threshold, (scan.width, scan.sep))))
+    command_row_back (codes "scan") (scan.file, (scan.zone, (scan.threshold, (scan.width, scan.sep))))
     (filed scan.file h.file, (named scan.zone h.zone, (omega (arith, le_of _ _ q.1), (omega (arith, le_of scan.width widest_scan p.1), tt))))
 
 scans_said : (zones : ZonesData) (hot : HotPointsOf) (scans : List ScanSet) → list_all (is_scan zones) scans ≡ true → AllByRecursion (IsScan hot) scans → AllByRecursion IsBack (map scan_line scans)
@@ -175,20 +174,20 @@ times_said name (t ∷ times) n h =
     let q = and_parts (nat_lt t.0 t.1) (nat_le t.1 10080) p.0 in
     let low = lt_of t.0 t.1 q.0 in
     let high = le_of t.1 10080 q.1 in
-    (row_back verb.Time (name, (t.0, t.1)) (n, (omega (arith, low, high), omega (arith, high))), times_said name times n p.1)
+    (edit_back (codes "time") (name, (t.0, t.1)) (n, (omega (arith, low, high), omega (arith, high))), times_said name times n p.1)
 
 at_said : (name : List ℕ) (at : Option ℕ) → IsNamed name → IfSome at IsKhz → AllByRecursion IsBack (at_lines name at)
 at_said name None n h = tt
-at_said name (Some khz) n h = (row_back verb.Set (name, khz) (n, short khz h), tt)
+at_said name (Some khz) n h = (edit_back (codes "set") (name, khz) (n, short khz h), tt)
 
 lock_said : (name : List ℕ) (locked : Bool) → IsNamed name → AllByRecursion IsBack (lock_lines name locked)
-lock_said name true n = (row_back verb.Lock name n, tt)
+lock_said name true n = (edit_back (codes "lock") name n, tt)
 lock_said name false n = tt
 
 carrier_said : (c : Carrier) → IsCarrier c → AllByRecursion IsBack (carrier_lines c)
 carrier_said c h =
     let n = named c.name h.name in (
-      row_back verb.Carrier (c.name, (c.profile, c.zone)) (n, (named c.profile h.profile, named c.zone h.zone)),
+      edit_back (codes "carrier") (c.name, (c.profile, c.zone)) (n, (named c.profile h.profile, named c.zone h.zone)),
       all_both IsBack (map (time_line c.name) c.times) (at_lines c.name c.at ++ lock_lines c.name c.locked) (times_said c.name c.times n h.times.valid)
           (all_both IsBack (at_lines c.name c.at) (lock_lines c.name c.locked) (at_said c.name c.at n h.at) (lock_said c.name c.locked n)),
     )
@@ -200,7 +199,7 @@ show_said hot show w =
     (all_both IsBack (couple_lines show.zones) _ (pairs_said Coupled show.zones w.zone_names)
     (all_both IsBack (far_lines show.zones) _ (pairs_said Far show.zones w.zone_names)
     (all_both IsBack (flat_map profile_lines show.profiles) _ (profiles_said show.profiles w.textual w.profiles)
-    (all_both IsBack (map ban_line show.bans) _ (all_map IsBan IsBack ban_line show.bans w.bans (λ b h. row_back verb.Ban (b.lo, (b.hi, b.zone)) (short b.lo h.low, (short b.hi h.high, if_named b.zone h.zone))))
+    (all_both IsBack (map ban_line show.bans) _ (all_map IsBan IsBack ban_line show.bans w.bans (λ b h. edit_back (codes "ban") (b.lo, (b.hi, b.zone)) (short b.lo h.low, (short b.hi h.high, if_named b.zone h.zone))))
     (all_both IsBack (map scan_line show.scans) (flat_map carrier_lines show.carriers) (scans_said show.zones hot show.scans k.scans w.scans)
     (all_flat IsCarrier IsBack carrier_lines show.carriers w.carriers carrier_said))))))
 

@@ -1,53 +1,74 @@
 -- The command that a line writes.
-use Rattle.std.specs.Prelude.{ℕ, List, [], ◌∷◌, Option, None, Result, option_and_then, ok_or, IsTrue}
+use Rattle.std.specs.Prelude.{ℕ, List, [], ◌∷◌, Option, Some, None, Result, option_and_then, option_map, ok_or, codes, IsTrue}
 use Rattle.rf_show.specs.After.{is_edit}
+use Rattle.rf_show.specs.declared.edit.Edit.{Edit}
 use Rattle.rf_show.specs.declared.edit.Edit.TheVariants as edit
 use Rattle.rf_text.specs.declared.command.Command.{Command}
 use Rattle.rf_text.specs.declared.command.Command.TheVariants as command
 use Rattle.rf_text.specs.declared.command.UnknownLine.{UnknownLine}
-use Rattle.rf_text.specs.declared.verb.Verb.{Verb}
-use Rattle.rf_text.specs.declared.verb.Verb.TheVariants as verb
 use Rattle.rf_text.specs.Words.{words_of}
-use Rattle.rf_text.specs.Shapes.{Row, nothing, last, perhaps, numbers, ◌and◌, ◌makes◌, ◌changes◌, a_decimal, a_file, a_name, a_number, a_separator, command_read}
-use Rattle.rf_text.specs.Verbs.{verb_of}
+use Rattle.rf_text.specs.Shapes.{Row, nothing, last, perhaps, numbers, ◌and◌, ◌takes◌makes◌, a_decimal, a_file, a_name, a_number, a_separator, row_of, row_read}
 
--- a row for each verb: what its operands are, and what they make
-abbrev pub row_of : Verb → Row
-row_of verb.Profile = a_name and numbers changes edit.AddProfile
-row_of verb.Range = a_name and a_number and a_number and last a_number changes edit.AddRange
-row_of verb.DropProfile = last a_name changes edit.DropProfile
-row_of verb.Zone = last a_name changes edit.AddZone
-row_of verb.Couple = a_name and last a_name changes edit.Couple
-row_of verb.Uncouple = a_name and last a_name changes edit.Uncouple
-row_of verb.Far = a_name and last a_name changes edit.Far
-row_of verb.Carrier = a_name and a_name and last a_name changes edit.AddCarrier
-row_of verb.Remove = last a_name changes edit.Remove
-row_of verb.Time = a_name and a_number and last a_number changes edit.AddTime
-row_of verb.Always = last a_name changes edit.Always
-row_of verb.Set = a_name and last a_number changes edit.SetAt
-row_of verb.Clear = last a_name changes edit.Clear
-row_of verb.Lock = last a_name changes edit.Lock
-row_of verb.Unlock = last a_name changes edit.Unlock
-row_of verb.Ban = a_number and a_number and perhaps a_name changes edit.AddBan
-row_of verb.Unban = last a_number changes edit.Unban
-row_of verb.Scan = a_file and a_name and a_decimal and a_number and last a_separator makes command.Scan
-row_of verb.Unscan = last a_number changes edit.Unscan
-row_of verb.Profiles = last a_file makes command.Profiles
-row_of verb.Undo = nothing makes command.Undo
-row_of verb.Redo = nothing makes command.Redo
-row_of verb.Report = nothing makes command.Report
-row_of verb.Csv = nothing makes command.Csv
-row_of verb.Show = nothing makes command.Show
-row_of verb.Free = last a_name makes command.Free
-row_of verb.Products = a_number and last a_number makes command.Products
-row_of verb.Solve = last a_number makes command.Solve
-row_of verb.Place = last a_number makes command.Place
-row_of verb.Quit = nothing makes command.Quit
+-- the lines of edits
+abbrev pub edit_rows : List (Row Edit)
+edit_rows =
+    codes "profile" takes a_name and numbers makes edit.AddProfile
+    ∷ codes "range" takes a_name and a_number and a_number and last a_number makes edit.AddRange
+    ∷ codes "drop-profile" takes last a_name makes edit.DropProfile
+    ∷ codes "zone" takes last a_name makes edit.AddZone
+    ∷ codes "couple" takes a_name and last a_name makes edit.Couple
+    ∷ codes "uncouple" takes a_name and last a_name makes edit.Uncouple
+    ∷ codes "far" takes a_name and last a_name makes edit.Far
+    ∷ codes "carrier" takes a_name and a_name and last a_name makes edit.AddCarrier
+    ∷ codes "remove" takes last a_name makes edit.Remove
+    ∷ codes "time" takes a_name and a_number and last a_number makes edit.AddTime
+    ∷ codes "always" takes last a_name makes edit.Always
+    ∷ codes "set" takes a_name and last a_number makes edit.SetAt
+    ∷ codes "clear" takes last a_name makes edit.Clear
+    ∷ codes "lock" takes last a_name makes edit.Lock
+    ∷ codes "unlock" takes last a_name makes edit.Unlock
+    ∷ codes "ban" takes a_number and a_number and perhaps a_name makes edit.AddBan
+    ∷ codes "unban" takes last a_number makes edit.Unban
+    ∷ codes "unscan" takes last a_number makes edit.Unscan
+    ∷ []
+
+-- the lines of all other commands
+abbrev pub command_rows : List (Row Command)
+command_rows =
+    codes "scan" takes a_file and a_name and a_decimal and a_number and last a_separator makes command.Scan
+    ∷ codes "profiles" takes last a_file makes command.Profiles
+    ∷ codes "undo" takes nothing makes command.Undo
+    ∷ codes "redo" takes nothing makes command.Redo
+    ∷ codes "report" takes nothing makes command.Report
+    ∷ codes "csv" takes nothing makes command.Csv
+    ∷ codes "show" takes nothing makes command.Show
+    ∷ codes "free" takes last a_name makes command.Free
+    ∷ codes "products" takes a_number and last a_number makes command.Products
+    ∷ codes "solve" takes last a_number makes command.Solve
+    ∷ codes "place" takes last a_number makes command.Place
+    ∷ codes "widen" takes last a_number makes command.Widen
+    ∷ codes "why" takes last a_number makes command.Why
+    ∷ codes "spares" takes a_name and a_name and last a_number makes command.Spares
+    ∷ codes "quit" takes nothing makes command.Quit
+    ∷ []
+
+-- the edit that a first word and the operands after it write
+abbrev pub edit_by : List ℕ → List (List ℕ) → Option Edit
+edit_by verb operands = option_and_then (λ row. row_read row operands) (row_of edit_rows verb)
+
+-- by a row of a command; where there is none, by that of an edit
+abbrev pub with_row : Option (Row Command) → List ℕ → List (List ℕ) → Option Command
+with_row (Some row) verb operands = row_read row operands
+with_row None verb operands = option_map command.Change (edit_by verb operands)
+
+-- the command that a first word and the operands after it write
+abbrev pub command_by : List ℕ → List (List ℕ) → Option Command
+command_by verb operands = with_row (row_of command_rows verb) verb operands
 
 -- the command that the words of a line write
 abbrev pub command_with : List (List ℕ) → Option Command
 command_with [] = None
-command_with (word ∷ operands) = option_and_then (λ verb. command_read (row_of verb) operands) (verb_of word)
+command_with (word ∷ operands) = command_by word operands
 
 abbrev pub command_in : List ℕ → Option Command
 command_in line = option_and_then command_with (words_of line)

@@ -8,5 +8,4 @@ pub mod Separators
 pub mod Shapes
 pub mod ShowLaw
 pub mod Shows
-pub mod Verbs
 pub mod Words

@@ -1,13 +1,11 @@
 -- The operands of a line as data, and what a line makes of them.
-use Rattle.std.specs.Prelude.{ℕ, List, Option, None, option_map}
+use Rattle.std.specs.Prelude.{ℕ, List, Option, find, option_map}
+use Rattle.std.specs.Str.{bytes_eq}
 use Rattle.rf_base.specs.declared.decimal.Decimal.{Decimal}
 use Rattle.rf_base.specs.Decimal.{number_of}
 use Rattle.rf_base.specs.FileName.{file_name_of}
 use Rattle.rf_base.specs.Name.{name_of}
 use Rattle.rf_exclusions.specs.declared.scan_set.Sep.{Sep}
-use Rattle.rf_show.specs.declared.edit.Edit.{Edit}
-use Rattle.rf_text.specs.declared.command.Command.{Command}
-use Rattle.rf_text.specs.declared.command.Command.TheVariants.{Change}
 use Rattle.rf_text.specs.Decimals.{decimal_in}
 use Rattle.rf_text.specs.Operands.{at_most_one, first, none, one, profile_numbers}
 use Rattle.rf_text.specs.Separators.{sep_of}
@@ -37,7 +35,7 @@ value a_decimal = decimal_in
 value a_separator = sep_of
 
 -- what all operands are: none, a last one, at most one, the numbers of a profile, or an operand and what is after it
-infixr 60 ◌and◌
+infixr 75 ◌and◌
 pub data Shape : Type 0 where
   nothing : Shape
   last : Operand → Shape
@@ -77,18 +75,24 @@ applied (perhaps operand) make w = make w
 applied numbers make w = make w
 applied (operand and more) make w = applied more (make w.0) w.1
 
--- what a verb's operands are, and the command or the edit that they make
-infix 50 ◌makes◌ ◌changes◌
-pub data Row : Type 0 where
-  ◌makes◌ : (shape : Shape) → Takes shape Command → Row
-  ◌changes◌ : (shape : Shape) → Takes shape Edit → Row
+-- a line: its first word, what its operands are, and what they make
+pub record Row (Made : Type 0) : Type 0 where
+  pub verb : List ℕ
+  pub shape : Shape
+  pub make : Takes shape Made
 
--- the edit of a row of an edit
-abbrev pub edit_read : Row → List (List ℕ) → Option Edit
-edit_read (shape makes make) words = None
-edit_read (shape changes make) words = option_map (applied shape make) (values shape words)
+infix 70 ◌takes◌makes◌
+abbrev pub ◌takes◌makes◌ : {Made : Type 0} → List ℕ → (shape : Shape) → Takes shape Made → Row Made
+verb takes shape makes make = record { verb = verb; shape = shape; make = make }
 
--- the command that words write by a row
-abbrev pub command_read : Row → List (List ℕ) → Option Command
-command_read (shape makes make) words = option_map (applied shape make) (values shape words)
-command_read (shape changes make) words = option_map Change (option_map (applied shape make) (values shape words))
+-- what values make by a row
+abbrev pub made : {Made : Type 0} → (row : Row Made) → Values row.shape → Made
+made row w = applied row.shape row.make w
+
+-- what the operands of a line make by a row
+abbrev pub row_read : {Made : Type 0} → Row Made → List (List ℕ) → Option Made
+row_read row operands = option_map (made row) (values row.shape operands)
+
+-- the row of a first word
+abbrev pub row_of : {Made : Type 0} → List (Row Made) → List ℕ → Option (Row Made)
+row_of rows word = find (λ row. bytes_eq word row.verb) rows

@@ -1,11 +1,8 @@
-ghost use Rattle.std.specs.Prelude.{◌≡◌, IfOk};
+ghost use Rattle.std.specs.Prelude.{◌≡◌, codes, IfOk};
 ghost use Rattle.rf_text.specs.Commands as spec;
-ghost use Rattle.rf_text.specs.Shapes.{command_read};
-ghost use Rattle.rf_text.specs.declared.verb.Verb.TheVariants as verb;
 
 use crate::edit::edit_by;
 use crate::operand::{none, one, three, two};
-use crate::verb::Verb;
 use crate::words::Words;
 use rf_base::{Decimal, FileName, Name};
 use rf_exclusions::Sep;
@@ -55,6 +52,21 @@ pub enum Command {
     Place {
         budget: u32,
     },
+    /// By how much all spacings and margins that aren't 0 could be wider, in kilohertz, found by searches of at most so many branchings
+    /// each.
+    Widen {
+        budget: u32,
+    },
+    /// Which locks leave no plan, found by searches of at most so many branchings each.
+    Why {
+        budget: u32,
+    },
+    /// The channels of a profile on which a further carrier could be added in a zone, and up to `count` that could be added together.
+    Spares {
+        profile: Name,
+        zone: Name,
+        count: u32,
+    },
     /// The end of the session.
     Quit,
 }
@@ -80,32 +92,46 @@ fn command_in(line: &[u8]) -> Option<Command>
     ensures { result ≡ spec.command_in line.now }
 {
     let mut words = Words::of(line)?;
-    let verb = Verb::read(words.next()?)?;
+    let verb = str::from_utf8(words.next()?).ok()?;
     command_by(verb, words)
 }
 
-fn command_by(verb: Verb, operands: Words<'_>) -> Option<Command>
-    ensures { result ≡ command_read (spec.row_of verb) operands.entry }
+fn command_by(verb: &str, operands: Words<'_>) -> Option<Command>
+    ensures { result ≡ spec.command_by verb.now operands.entry }
 {
     match verb {
-        Verb::Profiles => one(operands).map(|file| Command::Profiles { file }),
-        Verb::Scan => scan_by(operands),
-        Verb::Undo => none(operands).map(|()| Command::Undo),
-        Verb::Redo => none(operands).map(|()| Command::Redo),
-        Verb::Report => none(operands).map(|()| Command::Report),
-        Verb::Csv => none(operands).map(|()| Command::Csv),
-        Verb::Show => none(operands).map(|()| Command::Show),
-        Verb::Free => one(operands).map(|name| Command::Free { name }),
-        Verb::Products => two(operands).map(|(lo, hi)| Command::Products { lo, hi }),
-        Verb::Solve => one(operands).map(|budget| Command::Solve { budget }),
-        Verb::Place => one(operands).map(|budget| Command::Place { budget }),
-        Verb::Quit => none(operands).map(|()| Command::Quit),
+        "profiles" => one(operands).map(|file| Command::Profiles { file }),
+        "scan" => scan_by(operands),
+        "undo" => none(operands).map(|()| Command::Undo),
+        "redo" => none(operands).map(|()| Command::Redo),
+        "report" => none(operands).map(|()| Command::Report),
+        "csv" => none(operands).map(|()| Command::Csv),
+        "show" => none(operands).map(|()| Command::Show),
+        "free" => one(operands).map(|name| Command::Free { name }),
+        "products" => two(operands).map(|(lo, hi)| Command::Products { lo, hi }),
+        "solve" => one(operands).map(|budget| Command::Solve { budget }),
+        "place" => one(operands).map(|budget| Command::Place { budget }),
+        "widen" => one(operands).map(|budget| Command::Widen { budget }),
+        "why" => one(operands).map(|budget| Command::Why { budget }),
+        "spares" => spares_by(operands),
+        "quit" => none(operands).map(|()| Command::Quit),
         _ => edit_by(verb, operands).map(Command::Change),
     }
 }
 
+fn spares_by(operands: Words<'_>) -> Option<Command>
+    ensures { result ≡ spec.command_by (codes "spares") operands.entry }
+{
+    let (profile, zone, count) = three(operands)?;
+    Some(Command::Spares {
+        profile,
+        zone,
+        count,
+    })
+}
+
 fn scan_by(mut operands: Words<'_>) -> Option<Command>
-    ensures { result ≡ command_read (spec.row_of verb.Scan) operands.entry }
+    ensures { result ≡ spec.command_by (codes "scan") operands.entry }
 {
     let file = FileName::read(operands.next()?)?;
     let zone = Name::read(operands.next()?)?;

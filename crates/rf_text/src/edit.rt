@@ -1,43 +1,40 @@
-ghost use Rattle.std.specs.Prelude.{◌≡◌};
+ghost use Rattle.std.specs.Prelude.{◌≡◌, codes};
 ghost use Rattle.rf_text.specs.Commands as spec;
-ghost use Rattle.rf_text.specs.Shapes.{edit_read};
-ghost use Rattle.rf_text.specs.declared.verb.Verb.TheVariants as verb;
 
 use crate::operand::{Operand, at_most_one, one, profile_numbers, three, two};
-use crate::verb::Verb;
 use crate::words::Words;
 use rf_base::Name;
 use rf_show::Edit;
 
 /// The edit that a first word and the operands after it write.
-pub(crate) fn edit_by(verb: Verb, operands: Words<'_>) -> Option<Edit>
-    ensures { result ≡ edit_read (spec.row_of verb) operands.entry }
+pub(crate) fn edit_by(verb: &str, operands: Words<'_>) -> Option<Edit>
+    ensures { result ≡ spec.edit_by verb.now operands.entry }
 {
     match verb {
-        Verb::Profile => profile_by(operands),
-        Verb::Range => range_by(operands),
-        Verb::DropProfile => one(operands).map(|name| Edit::DropProfile { name }),
-        Verb::Zone => one(operands).map(|name| Edit::AddZone { name }),
-        Verb::Couple => two(operands).map(|(a, b)| Edit::Couple { a, b }),
-        Verb::Uncouple => two(operands).map(|(a, b)| Edit::Uncouple { a, b }),
-        Verb::Far => two(operands).map(|(a, b)| Edit::Far { a, b }),
-        Verb::Carrier => carrier_by(operands),
-        Verb::Remove => one(operands).map(|name| Edit::Remove { name }),
-        Verb::Time => three(operands).map(|(name, from, to)| Edit::AddTime { name, from, to }),
-        Verb::Always => one(operands).map(|name| Edit::Always { name }),
-        Verb::Set => two(operands).map(|(name, khz)| Edit::SetAt { name, khz }),
-        Verb::Clear => one(operands).map(|name| Edit::Clear { name }),
-        Verb::Lock => one(operands).map(|name| Edit::Lock { name }),
-        Verb::Unlock => one(operands).map(|name| Edit::Unlock { name }),
-        Verb::Ban => ban_by(operands),
-        Verb::Unban => one(operands).map(|number| Edit::Unban { number }),
-        Verb::Unscan => one(operands).map(|number| Edit::Unscan { number }),
+        "profile" => profile_by(operands),
+        "range" => range_by(operands),
+        "drop-profile" => one(operands).map(|name| Edit::DropProfile { name }),
+        "zone" => one(operands).map(|name| Edit::AddZone { name }),
+        "couple" => two(operands).map(|(a, b)| Edit::Couple { a, b }),
+        "uncouple" => two(operands).map(|(a, b)| Edit::Uncouple { a, b }),
+        "far" => two(operands).map(|(a, b)| Edit::Far { a, b }),
+        "carrier" => carrier_by(operands),
+        "remove" => one(operands).map(|name| Edit::Remove { name }),
+        "time" => three(operands).map(|(name, from, to)| Edit::AddTime { name, from, to }),
+        "always" => one(operands).map(|name| Edit::Always { name }),
+        "set" => two(operands).map(|(name, khz)| Edit::SetAt { name, khz }),
+        "clear" => one(operands).map(|name| Edit::Clear { name }),
+        "lock" => one(operands).map(|name| Edit::Lock { name }),
+        "unlock" => one(operands).map(|name| Edit::Unlock { name }),
+        "ban" => ban_by(operands),
+        "unban" => one(operands).map(|number| Edit::Unban { number }),
+        "unscan" => one(operands).map(|number| Edit::Unscan { number }),
         _ => None,
     }
 }
 
 fn profile_by(mut operands: Words<'_>) -> Option<Edit>
-    ensures { result ≡ edit_read (spec.row_of verb.Profile) operands.entry }
+    ensures { result ≡ spec.edit_by (codes "profile") operands.entry }
 {
     let name = Name::read(operands.next()?)?;
     let numbers = profile_numbers(operands)?;
@@ -45,7 +42,7 @@ fn profile_by(mut operands: Words<'_>) -> Option<Edit>
 }
 
 fn range_by(mut operands: Words<'_>) -> Option<Edit>
-    ensures { result ≡ edit_read (spec.row_of verb.Range) operands.entry }
+    ensures { result ≡ spec.edit_by (codes "range") operands.entry }
 {
     let name = Name::read(operands.next()?)?;
     let (from, to, step) = three(operands)?;
@@ -58,7 +55,7 @@ fn range_by(mut operands: Words<'_>) -> Option<Edit>
 }
 
 fn carrier_by(operands: Words<'_>) -> Option<Edit>
-    ensures { result ≡ edit_read (spec.row_of verb.Carrier) operands.entry }
+    ensures { result ≡ spec.edit_by (codes "carrier") operands.entry }
 {
     let (name, profile, zone) = three(operands)?;
     Some(Edit::AddCarrier {
@@ -69,7 +66,7 @@ fn carrier_by(operands: Words<'_>) -> Option<Edit>
 }
 
 fn ban_by(mut operands: Words<'_>) -> Option<Edit>
-    ensures { result ≡ edit_read (spec.row_of verb.Ban) operands.entry }
+    ensures { result ≡ spec.edit_by (codes "ban") operands.entry }
 {
     let lo = u32::read(operands.next()?)?;
     let hi = u32::read(operands.next()?)?;

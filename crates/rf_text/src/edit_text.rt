@@ -1,10 +1,8 @@
 ghost use Rattle.std.specs.Prelude.{◌≡◌, ◌++◌, ◌∷◌, [], OnOk, map, decimal, string_bytes};
 ghost use Rattle.rf_base.specs.Lines.{joined, spaced};
 ghost use Rattle.rf_text.specs.EditTexts as spec;
-ghost use Rattle.rf_text.specs.Verbs.{text_of};
 
 use crate::operand::FEWEST_NUMBERS;
-use crate::verb::Verb;
 use rf_base::{Name, NoMemory};
 use rf_profiles::Profile;
 use rf_show::Edit;
@@ -16,7 +14,7 @@ pub(crate) fn write_edit(text: &mut String, edit: &Edit) -> Result<(), NoMemory>
 {
     match edit {
         Edit::AddProfile { name, numbers } => {
-            write_named(text, Verb::Profile, name)?;
+            write_named(text, "profile", name)?;
             write_profile_numbers(text, numbers)
         }
         Edit::AddRange {
@@ -25,75 +23,78 @@ pub(crate) fn write_edit(text: &mut String, edit: &Edit) -> Result<(), NoMemory>
             to,
             step,
         } => {
-            write_named(text, Verb::Range, name)?;
+            write_named(text, "range", name)?;
             write_numbers(text, &[*from, *to, *step])
         }
-        Edit::DropProfile { name } => write_named(text, Verb::DropProfile, name),
-        Edit::AddZone { name } => write_named(text, Verb::Zone, name),
-        Edit::Couple { a, b } => write_pair(text, Verb::Couple, a, b),
-        Edit::Uncouple { a, b } => write_pair(text, Verb::Uncouple, a, b),
-        Edit::Far { a, b } => write_pair(text, Verb::Far, a, b),
+        Edit::DropProfile { name } => write_named(text, "drop-profile", name),
+        Edit::AddZone { name } => write_named(text, "zone", name),
+        Edit::Couple { a, b } => write_pair(text, "couple", a, b),
+        Edit::Uncouple { a, b } => write_pair(text, "uncouple", a, b),
+        Edit::Far { a, b } => write_pair(text, "far", a, b),
         Edit::AddCarrier {
             name,
             profile,
             zone,
         } => {
-            write_pair(text, Verb::Carrier, name, profile)?;
+            write_pair(text, "carrier", name, profile)?;
             write_name(text, zone)
         }
-        Edit::Remove { name } => write_named(text, Verb::Remove, name),
+        Edit::Remove { name } => write_named(text, "remove", name),
         Edit::AddTime { name, from, to } => {
-            write_named(text, Verb::Time, name)?;
+            write_named(text, "time", name)?;
             write_numbers(text, &[*from, *to])
         }
-        Edit::Always { name } => write_named(text, Verb::Always, name),
+        Edit::Always { name } => write_named(text, "always", name),
         Edit::SetAt { name, khz } => {
-            write_named(text, Verb::Set, name)?;
+            write_named(text, "set", name)?;
             write_numbers(text, &[*khz])
         }
-        Edit::Clear { name } => write_named(text, Verb::Clear, name),
-        Edit::Lock { name } => write_named(text, Verb::Lock, name),
-        Edit::Unlock { name } => write_named(text, Verb::Unlock, name),
+        Edit::Clear { name } => write_named(text, "clear", name),
+        Edit::Lock { name } => write_named(text, "lock", name),
+        Edit::Unlock { name } => write_named(text, "unlock", name),
         Edit::AddBan { lo, hi, zone } => {
-            write_numbered(text, Verb::Ban, &[*lo, *hi])?;
+            write_numbered(text, "ban", &[*lo, *hi])?;
             write_zone(text, zone)
         }
-        Edit::Unban { number } => write_numbered(text, Verb::Unban, &[*number]),
-        Edit::Unscan { number } => write_numbered(text, Verb::Unscan, &[*number]),
+        Edit::Unban { number } => write_numbered(text, "unban", &[*number]),
+        Edit::Unscan { number } => write_numbered(text, "unscan", &[*number]),
         Edit::AddProfiles { .. } | Edit::AddScan { .. } | Edit::Place { .. } => Ok(()),
     }
 }
 
 /// Writes a verb.
-pub(crate) fn write_verb(text: &mut String, verb: Verb) -> Result<(), NoMemory>
-    ensures { OnOk result (string_bytes text.new ≡ string_bytes text.old ++ joined (text_of verb ∷ [])) }
+pub(crate) fn write_verb(text: &mut String, verb: &str) -> Result<(), NoMemory>
+    ensures { OnOk result (string_bytes text.new ≡ string_bytes text.old ++ joined (verb.now ∷ [])) }
 {
-    let verb = verb.text();
     write!(text, "{verb}")?;
     Ok(())
 }
 
 /// Writes a verb and a name.
-pub(crate) fn write_named(text: &mut String, verb: Verb, name: &Name) -> Result<(), NoMemory>
-    ensures { OnOk result (string_bytes text.new ≡ string_bytes text.old ++ joined (text_of verb ∷ name.now ∷ [])) }
+pub(crate) fn write_named(text: &mut String, verb: &str, name: &Name) -> Result<(), NoMemory>
+    ensures { OnOk result (string_bytes text.new ≡ string_bytes text.old ++ joined (verb.now ∷ name.now ∷ [])) }
 {
-    let verb = verb.text();
     let name = name.text();
     write!(text, "{verb} {name}")?;
     Ok(())
 }
 
-// Writes a verb and two names.
-fn write_pair(text: &mut String, verb: Verb, first: &Name, second: &Name) -> Result<(), NoMemory>
-    ensures { OnOk result (string_bytes text.new ≡ string_bytes text.old ++ joined (text_of verb ∷ first.now ∷ second.now ∷ [])) }
+/// Writes a verb and two names.
+pub(crate) fn write_pair(
+    text: &mut String,
+    verb: &str,
+    first: &Name,
+    second: &Name,
+) -> Result<(), NoMemory>
+    ensures { OnOk result (string_bytes text.new ≡ string_bytes text.old ++ joined (verb.now ∷ first.now ∷ second.now ∷ [])) }
 {
     write_named(text, verb, first)?;
     write_name(text, second)
 }
 
 /// Writes a verb and numbers.
-pub(crate) fn write_numbered(text: &mut String, verb: Verb, numbers: &[u32]) -> Result<(), NoMemory>
-    ensures { OnOk result (string_bytes text.new ≡ string_bytes text.old ++ joined (text_of verb ∷ map decimal numbers.now)) }
+pub(crate) fn write_numbered(text: &mut String, verb: &str, numbers: &[u32]) -> Result<(), NoMemory>
+    ensures { OnOk result (string_bytes text.new ≡ string_bytes text.old ++ joined (verb.now ∷ map decimal numbers.now)) }
 {
     write_verb(text, verb)?;
     write_numbers(text, numbers)

@@ -11,7 +11,6 @@ mod operand;
 mod separator;
 mod show_law;
 mod show_lines;
-mod verb;
 mod words;
 mod writing;
 

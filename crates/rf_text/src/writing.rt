@@ -4,13 +4,13 @@ ghost use Rattle.rf_text.specs.Commands.{command_of};
 ghost use Rattle.rf_text.specs.Decimals.{decimal_text};
 ghost use Rattle.rf_base.specs.Lines.{joined, spaced};
 ghost use Rattle.rf_text.specs.Separators.{sep_text};
-ghost use Rattle.rf_text.specs.Verbs.{text_of};
 
 use crate::command::Command;
 use crate::decimal_text::write_decimal;
-use crate::edit_text::{write_edit, write_name, write_named, write_numbered, write_verb};
+use crate::edit_text::{
+    write_edit, write_name, write_named, write_numbered, write_numbers, write_pair, write_verb,
+};
 use crate::separator::sep_text;
-use crate::verb::Verb;
 use rf_base::{Decimal, FileName, NoMemory};
 use rf_exclusions::Sep;
 use std::alloc::Global;
@@ -33,7 +33,7 @@ pub(crate) fn write_command(text: &mut String, command: &Command) -> Result<(), 
 {
     match command {
         Command::Change(edit) => write_edit(text, edit),
-        Command::Profiles { file } => write_filed(text, Verb::Profiles, file),
+        Command::Profiles { file } => write_filed(text, "profiles", file),
         Command::Scan {
             file,
             zone,
@@ -41,28 +41,37 @@ pub(crate) fn write_command(text: &mut String, command: &Command) -> Result<(), 
             width,
             sep,
         } => {
-            write_filed(text, Verb::Scan, file)?;
+            write_filed(text, "scan", file)?;
             write_name(text, zone)?;
             write_reading(text, *threshold, *width, *sep)
         }
-        Command::Undo => write_verb(text, Verb::Undo),
-        Command::Redo => write_verb(text, Verb::Redo),
-        Command::Report => write_verb(text, Verb::Report),
-        Command::Csv => write_verb(text, Verb::Csv),
-        Command::Show => write_verb(text, Verb::Show),
-        Command::Free { name } => write_named(text, Verb::Free, name),
-        Command::Products { lo, hi } => write_numbered(text, Verb::Products, &[*lo, *hi]),
-        Command::Solve { budget } => write_numbered(text, Verb::Solve, &[*budget]),
-        Command::Place { budget } => write_numbered(text, Verb::Place, &[*budget]),
-        Command::Quit => write_verb(text, Verb::Quit),
+        Command::Undo => write_verb(text, "undo"),
+        Command::Redo => write_verb(text, "redo"),
+        Command::Report => write_verb(text, "report"),
+        Command::Csv => write_verb(text, "csv"),
+        Command::Show => write_verb(text, "show"),
+        Command::Free { name } => write_named(text, "free", name),
+        Command::Products { lo, hi } => write_numbered(text, "products", &[*lo, *hi]),
+        Command::Solve { budget } => write_numbered(text, "solve", &[*budget]),
+        Command::Place { budget } => write_numbered(text, "place", &[*budget]),
+        Command::Widen { budget } => write_numbered(text, "widen", &[*budget]),
+        Command::Why { budget } => write_numbered(text, "why", &[*budget]),
+        Command::Spares {
+            profile,
+            zone,
+            count,
+        } => {
+            write_pair(text, "spares", profile, zone)?;
+            write_numbers(text, &[*count])
+        }
+        Command::Quit => write_verb(text, "quit"),
     }
 }
 
 // Writes a verb and the name of a file.
-fn write_filed(text: &mut String, verb: Verb, file: &FileName) -> Result<(), NoMemory>
-    ensures { OnOk result (string_bytes text.new ≡ string_bytes text.old ++ joined (text_of verb ∷ file.now ∷ [])) }
+fn write_filed(text: &mut String, verb: &str, file: &FileName) -> Result<(), NoMemory>
+    ensures { OnOk result (string_bytes text.new ≡ string_bytes text.old ++ joined (verb.now ∷ file.now ∷ [])) }
 {
-    let verb = verb.text();
     let file = file.text();
     write!(text, "{verb} {file}")?;
     Ok(())

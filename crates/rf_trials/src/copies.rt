@@ -28,14 +28,15 @@ fn is_narrow(profile: &Profile) -> bool
         && margins.m2t7 <= widest
 }
 
-fn are_narrow(profiles: &[Profile]) -> bool
+/// Whether no spacing, half width or margin of profiles is wider than a text may give.
+pub(crate) fn are_narrow(profiles: &[Profile]) -> bool
     ensures { result ≡ list_all (λ p. list_all is_width (widths p)) profiles.now }
 {
     profiles.iter().all(|profile| is_narrow(profile))
 }
 
 /// Raises a show, unless it is wider than a text may give.
-fn raised(show: &mut Show, extra: u32) -> bool {
+pub(crate) fn raised(show: &mut Show, extra: u32) -> bool {
     if extra > Show::MAX_RAISED || !are_narrow(show.profiles()) {
         return false;
     }

@@ -3,6 +3,10 @@
 #![tactic(auto)]
 
 #[cfg(test)]
+mod audits;
+#[cfg(test)]
+mod blocking;
+#[cfg(test)]
 mod chances;
 #[cfg(test)]
 mod copies;
@@ -20,6 +24,8 @@ mod hold;
 mod lines;
 #[cfg(test)]
 mod logs;
+#[cfg(test)]
+mod margins;
 #[cfg(test)]
 mod outside;
 #[cfg(test)]

@@ -39,6 +39,9 @@ fn lines_are_written(alloc: Global) -> Result<(), Broken> {
         (is_written(alloc, b"solve 0"), "solve"),
         (is_written(alloc, b"place 20000"), "place"),
         (is_written(alloc, b"free a"), "free"),
+        (is_written(alloc, b"widen 20001"), "widen"),
+        (is_written(alloc, b"why 0"), "why"),
+        (is_written(alloc, b"spares P main 33"), "spares"),
         (is_written(alloc, b"quit"), "quit"),
         (is_written(alloc, b"ban 470000 480000 stage"), "ban"),
     ])

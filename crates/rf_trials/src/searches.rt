@@ -6,6 +6,7 @@ ghost use Rattle.rf_search.specs.declared.limits.TheConstants.{MAX_BUDGET};
 use crate::hold::{Broken, hold, told};
 use crate::logs::log_of;
 use crate::shows::{add_carrier, add_profile, add_time, change};
+use rf_audit::{Audit, audit};
 use rf_base::{Items, Khz, MemSink, Name};
 use rf_checker::check;
 use rf_log::{LogLine, Verdict};
@@ -69,6 +70,11 @@ fn accepted(alloc: Global, show: &Show, text: &[u8], closed: bool) -> Result<u32
     };
     let verdict = check(alloc, show, &log)?;
     hold(&[(verdict == wanted, "the verdict of the search")])?;
+    let found = audit(alloc, show, &log)?;
+    hold(&[(
+        found == Audit::Honest { branchings },
+        "honest branchings alone",
+    )])?;
     Ok(branchings)
 }
 
@@ -147,13 +153,13 @@ fn ended(alloc: Global, show: &Show, budget: u32) -> Result<Ending, Broken>
 
 /// Numbers as if by chance, always the same.
 #[derive(Drop)]
-struct Chance {
-    state: u32,
+pub(crate) struct Chance {
+    pub(crate) state: u32,
 }
 
 impl Chance {
     /// The next number, below `limit`.
-    fn below(&mut self, limit: u32) -> u32
+    pub(crate) fn below(&mut self, limit: u32) -> u32
         requires { 0 < limit }
         ensures { result < limit }
     {
@@ -223,7 +229,7 @@ fn add_some_carrier(show: &mut Show, word: &[u8], chance: &mut Chance) -> Result
 }
 
 /// The frequency of a channel of the first carrier, or one off its channels.
-fn some_place(show: &Show, chance: &mut Chance) -> u32 {
+pub(crate) fn some_place(show: &Show, chance: &mut Chance) -> u32 {
     let k = chance.below(4);
     if show.carriers().len() == 0 {
         return 500_010;
@@ -253,13 +259,21 @@ fn lock_some_place(show: &mut Show, chance: &mut Chance) -> Result<(), Broken> {
     if chance.below(3) != 0 {
         return Ok(());
     }
-    let name = Name::read(b"a").ok_or("a name")?;
     let khz = some_place(show, chance);
+    lock_at(show, b"a", khz)
+}
+
+/// A carrier is locked at a frequency, where it is there.
+pub(crate) fn lock_at(show: &mut Show, word: &[u8], khz: u32) -> Result<(), Broken> {
+    let name = Name::read(word).ok_or("a name")?;
+    if !show.carriers().iter().any(|carrier| carrier.name == name) {
+        return Ok(());
+    }
     change(show, Edit::SetAt { name, khz })?;
     change(show, Edit::Lock { name })
 }
 
-fn some_show(alloc: Global, chance: &mut Chance) -> Result<Show, Broken> {
+pub(crate) fn some_show(alloc: Global, chance: &mut Chance) -> Result<Show, Broken> {
     let mut show = Show::new(alloc)?;
     add_places(&mut show, chance)?;
     let count = 2 + chance.below(3);
@@ -274,8 +288,15 @@ fn some_show(alloc: Global, chance: &mut Chance) -> Result<Show, Broken> {
 }
 
 /// Whether some plan keeps the rules. Each is tried, where there are at most four carriers of at most four channels.
-fn has_plan(show: &Show) -> bool {
-    for number in 0..256u32 {
+pub(crate) fn has_plan(show: &Show) -> bool {
+    let plans = match show.carriers().len() {
+        0 => 1u32,
+        1 => 4,
+        2 => 16,
+        3 => 64,
+        _ => 256,
+    };
+    for number in 0..plans {
         let plan = [number % 4, number / 4 % 4, number / 16 % 4, number / 64];
         if keeps_rules(show, plan) {
             return true;

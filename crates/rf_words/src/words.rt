@@ -1,12 +1,14 @@
-ghost use Rattle.std.specs.Prelude.{◌≡◌, ◌≢◌, Some, None, IfOk, IfErr, map, string_bytes, option_map, false};
+ghost use Rattle.std.specs.Prelude.{◌≡◌, ◌≢◌, Some, None, IfOk, IfErr, map, string_bytes, option_and_then, option_map, false};
 ghost use Rattle.clap.specs.Words.{app_of, first_of, found_of, rows_of, rule_of, subcommand_rows_of};
 ghost use Rattle.clap.specs.declared.builder.Command.TheViews.{out-Command};
+ghost use Rattle.rf_base.specs.Decimal.{number_of};
 ghost use Rattle.rf_words.specs.Words as spec;
 
-use crate::asked::Asked;
+use crate::asked::{Asked, MAX_DEMO_LINES};
 use crate::word::Word;
 use clap::error::ErrorKind;
 use clap::{Arg, ArgMatches, Command};
+use rf_base::read_number;
 use std::alloc::{AllocError, Global};
 
 /// Why words of the command line ask for nothing.
@@ -63,24 +65,62 @@ fn asked_of(alloc: Global, matches: &ArgMatches) -> Result<Asked, WordsFault>
     };
     match name {
         "session" => Ok(Asked::Session),
-        "check" => check_of(alloc, value_of(operands, "show"), value_of(operands, "log")),
+        "check" => {
+            let (show, log) = files_of(
+                alloc,
+                value_of(operands, "show"),
+                value_of(operands, "log"),
+            )?;
+            Ok(Asked::Check { show, log })
+        }
+        "audit" => {
+            let (show, log) = files_of(
+                alloc,
+                value_of(operands, "show"),
+                value_of(operands, "log"),
+            )?;
+            Ok(Asked::Audit { show, log })
+        }
+        "demo" => demo_of(value_of(operands, "seed"), value_of(operands, "count")),
         _ => Err(WordsFault::Usage),
     }
 }
 
-/// A check of two files, where both words can name a file.
-fn check_of(alloc: Global, show: Option<&str>, log: Option<&str>) -> Result<Asked, WordsFault>
-    ensures asked { IfOk result (λ asked. spec.check_of (option_map (λ s. s.now) show.entry) (option_map (λ s. s.now) log.entry) ≡ Some asked) }
+/// The words of two files, where both can name a file.
+fn files_of(
+    alloc: Global,
+    show: Option<&str>,
+    log: Option<&str>,
+) -> Result<(Word, Word), WordsFault>
+    ensures files { IfOk result (λ files. spec.files_of (option_map (λ s. s.now) show.entry) (option_map (λ s. s.now) log.entry) ≡ Some files) }
     ensures usage { IfErr result (λ e. e ≢ WordsFault.Memory →
-        spec.check_of (option_map (λ s. s.now) show.entry) (option_map (λ s. s.now) log.entry) ≡ None) }
+        spec.files_of (option_map (λ s. s.now) show.entry) (option_map (λ s. s.now) log.entry) ≡ None) }
 {
     match (show, log) {
-        (Some(show), Some(log)) if is_file_word(show) && is_file_word(log) => Ok(Asked::Check {
-            show: Word::of(alloc, show)?,
-            log: Word::of(alloc, log)?,
-        }),
+        (Some(show), Some(log)) if is_file_word(show) && is_file_word(log) => {
+            Ok((Word::of(alloc, show)?, Word::of(alloc, log)?))
+        }
         _ => Err(WordsFault::Usage),
     }
+}
+
+/// A demonstration, where both words are numbers in their range.
+fn demo_of(seed: Option<&str>, count: Option<&str>) -> Result<Asked, WordsFault>
+    ensures asked { IfOk result (λ asked. spec.demo_of (option_map (λ s. s.now) seed.entry) (option_map (λ s. s.now) count.entry) ≡ Some asked) }
+    ensures usage { IfErr result (λ e. e ≢ WordsFault.Memory →
+        spec.demo_of (option_map (λ s. s.now) seed.entry) (option_map (λ s. s.now) count.entry) ≡ None) }
+{
+    match (number_in(seed), number_in(count)) {
+        (Some(seed), Some(count)) if count <= MAX_DEMO_LINES => Ok(Asked::Demo { seed, count }),
+        _ => Err(WordsFault::Usage),
+    }
+}
+
+/// The number that a word writes, where it is there.
+fn number_in(word: Option<&str>) -> Option<u32>
+    ensures { result ≡ option_and_then number_of (option_map (λ s. s.now) word.entry) }
+{
+    read_number(word?.as_bytes())
 }
 
 /// The value of an operand.
@@ -106,12 +146,16 @@ fn command<'a>(alloc: Global) -> Result<Command<'a>, AllocError>
 {
     let session = Command::new(alloc, "session");
     let check = two_operands(alloc, "check", "show", "log")?;
+    let audit = two_operands(alloc, "audit", "show", "log")?;
+    let demo = two_operands(alloc, "demo", "seed", "count")?;
     Command::new(alloc, "rfcoord")
         .no_binary_name(true)
         .disable_help_flag(true)
         .disable_help_subcommand(true)
         .subcommand(session)?
-        .subcommand(check)
+        .subcommand(check)?
+        .subcommand(audit)?
+        .subcommand(demo)
 }
 
 /// A subcommand that takes two words.

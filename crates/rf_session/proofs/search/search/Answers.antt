@@ -23,7 +23,7 @@ returns-in-Ok-put-clause-searched g c =
     searched_reply c.args.editor.now c.apply_plan.new.editor c.args.budget c.args.places found.0 found.1 c.in-Ok.found.verdict _ _ _
     (subst (λ show. IsEnded show c.args.budget found.0 found.1 c.in-Ok.found.verdict) c.show.ensures found.3)
     (leaves_here c.args.editor.now _ c.args.places _ c.show.result.now found.0 c.show.ensures found.4
-    (of_ok c.apply_plan.result _ (sym c.if-is_err.ensures.value) c.apply_plan.ensures))
+    (of_ok c.apply_plan.result _ (sym c.if-is_err.ensures.value) c.apply_plan.ensures.leaves))
     found.2
     (subst (λ piece. Appends (g.O.Sink.contents c.write_search.new.output) (g.O.Sink.contents c.put.new.out) piece) c.as_slice.ensures c.in-Ok-put.ensures.whole)
 
@@ -34,6 +34,6 @@ returns-clause-cut g c =
     verdict_cut c.args.editor.now c.apply_plan.new.editor c.args.budget part.count c.args.places found.0 found.1 c.in-Ok.found.verdict _ _ _
     (subst (λ show. IsEnded show c.args.budget found.0 found.1 c.in-Ok.found.verdict) c.show.ensures found.3)
     (leaves_here c.args.editor.now _ c.args.places _ c.show.result.now found.0 c.show.ensures found.4
-    (of_ok c.apply_plan.result _ (sym c.if-is_err.ensures.value) c.apply_plan.ensures))
+    (of_ok c.apply_plan.result _ (sym c.if-is_err.ensures.value) c.apply_plan.ensures.leaves))
     found.2
     (subst (λ piece. Appends (g.O.Sink.contents c.write_search.new.output) (g.O.Sink.contents c.put.new.out) (take part.count piece)) c.as_slice.ensures part.grew)

@@ -1,8 +1,8 @@
 use Rattle.std.proofs.Common.{◌≡◌, ◌∙◌, Some, ap, ap₂, sym}
-use Rattle.rf_words.specs.declared.asked.Asked.TheVariants.{Check}
+use Rattle.rf_words.specs.declared.asked.Asked.TheVariants.{Audit, Check, Demo}
 use Rattle.rf_words.specs.declared.words.WordsFault.{WordsFault}
 use Rattle.rf_words.specs.declared.words.WordsFault.TheVariants.{Usage, Memory}
-use Rattle.rf_session.proofs.Ending.{Ends-check, Ends-session, Ends-unread, Ends-usage}
+use Rattle.rf_session.proofs.Ending.{Ends-audit, Ends-check, Ends-demo, Ends-session, Ends-unread, Ends-usage}
 use Rattle.rf_session.proofs.top.do_asked.Goals as goal
 
 pub returns-in-Ok-Session-clause-ends : goal.returns-in-Ok-Session-clause-ends
@@ -15,6 +15,16 @@ pub returns-in-Ok-Check-clause-ends : goal.returns-in-Ok-Check-clause-ends
 returns-in-Ok-Check-clause-ends g c =
     let asked = c.in-Ok-Check.ensures.asked ∙ ap Some (c.in-Ok-Check.field-0-is ∙ ap₂ Check (sym c.as_str.ensures) (sym c.as_str-in-Ok-Check.ensures)) in
     Ends-check _ c.check.result _ _ _ _ asked c.check.ensures.checks c.check.ensures.write
+
+pub returns-in-Ok-Audit-clause-ends : goal.returns-in-Ok-Audit-clause-ends
+returns-in-Ok-Audit-clause-ends g c =
+    let asked = c.in-Ok-Audit.ensures.asked ∙ ap Some (c.in-Ok-Audit.field-0-is ∙ ap₂ Audit (sym c.as_str-in-Ok-Audit.ensures) (sym c.as_str-in-Ok-Audit-2.ensures)) in
+    Ends-audit _ c.check-in-Ok-Audit.result _ _ _ _ asked c.check-in-Ok-Audit.ensures.checks c.check-in-Ok-Audit.ensures.write
+
+pub returns-in-Ok-Demo-clause-ends : goal.returns-in-Ok-Demo-clause-ends
+returns-in-Ok-Demo-clause-ends g c =
+    let asked = c.in-Ok-Demo.ensures.asked ∙ ap Some (c.in-Ok-Demo.field-0-is ∙ ap₂ Demo (sym c.in-Ok-Demo.seed-is) (sym c.in-Ok-Demo.count-is)) in
+    Ends-demo _ c.demonstrate.result _ _ _ _ asked c.demonstrate.ensures.ends c.demonstrate.ensures.fault
 
 pub returns-in-Err-Usage-clause-ends : goal.returns-in-Err-Usage-clause-ends
 returns-in-Err-Usage-clause-ends g c = Ends-usage _ c.refuse_words.result _ _

@@ -1,0 +1,11 @@
+mod AuditLaws
+mod Covers
+mod Forms
+mod Struck
+mod Settles
+mod Sides
+mod Spreads
+mod Free
+mod Starts
+mod Led
+mod FollowLemmas

@@ -1,0 +1,7 @@
+use Rattle.std.proofs.Common.{take}
+use Rattle.std.specs.Prelude.{All}
+use Rattle.rf_solving.specs.LogWriter.{HasRoles}
+use Rattle.rf_decide.proofs.writable.have_roles.Given as goal
+
+abbrev pub invariant-loop-hint : goal.invariant-loop-hint
+invariant-loop-hint l = All HasRoles (take l.hint-index l.hints)

@@ -1,0 +1,3 @@
+pub mod HalvingLemmas
+pub mod EnoughLemmas
+pub mod Replies

@@ -1,0 +1,27 @@
+use Rattle.std.proofs.Common.{◌≡◌, ◌+◌, ◌-◌, length, arith}
+use Rattle.rf_profiles.specs.Range.{frequencies}
+use Rattle.rf_spares.specs.Runs.{flag_at}
+use Rattle.rf_spares.proofs.RunLemmas.{range_within, ranges_more, all_channels}
+use Rattle.rf_spares.proofs.text.write_ranges.Goals as goal
+
+pub overflow_add-end : goal.overflow_add-end
+overflow_add-end c =
+    let items = c.ranges-range-items in
+    let within = range_within items.result.now c.loop-range.range-index c.range-item.result c.loop-range-test.true c.range-item.is in
+    let few = all_channels items.result.now c.args.channels.now items.ensures.value items.ensures.form in
+    omega (arith, within, few, c.loop-range.invariant.begins, c.count.ensures.value)
+
+pub write_runs-requires-clause-within : goal.write_runs-requires-clause-within
+write_runs-requires-clause-within c =
+    let items = c.ranges-range-items in
+    let within = range_within items.result.now c.loop-range.range-index c.range-item.result c.loop-range-test.true c.range-item.is in
+    rw (c.requires, ← items.ensures.value) (omega (arith, within, c.loop-range.invariant.begins, c.count.ensures.value))
+
+pub loop-range-preserved : goal.loop-range-preserved
+loop-range-preserved c =
+    let count : c.loop-range.start + c.count.result - c.loop-range.start ≡ length (frequencies c.range-item.result) = omega (arith, c.count.ensures.value) in
+    let value = c.count.ensures.value in
+    let written = c.in_ok-write_runs.ensures in
+    rw value (ranges_more c.args.channels.now (flag_at c.args.flags.now) c.args.text.now c.ranges-range-items.result.now c.loop-range.range-index c.loop-range.text c.write_runs.new.text
+    c.loop-range.start c.range-item.result c.loop-range.invariant c.loop-range-test.true c.range-item.is
+    (rw count at written))

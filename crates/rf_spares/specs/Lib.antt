@@ -1,0 +1,10 @@
+pub mod Newcomers
+pub mod Spare
+pub mod Texts
+pub mod Crowds
+pub mod Harms
+pub mod Markings
+pub mod Exclusions
+pub mod Searches
+pub mod Fields
+pub mod Runs
