@@ -25,6 +25,7 @@ pub fn csv_text(alloc: Global, show: &Show, analysis: &Analysis) -> Result<Vec<u
     write_rows(alloc, &mut writer, show.carriers(), conflicts)?;
     match writer.into_inner() {
         Ok(text) => Ok(text),
+        // A `Vec` takes all that it has memory for, so nothing but want of memory is left.
         Err(_) => Err(NoMemory),
     }
 }

@@ -29,6 +29,7 @@ pub fn read_scan(alloc: Global, bytes: &[u8], sep: Sep) -> Result<Vec<Point>, Sc
     for row in rdr.into_byte_records() {
         let row = match row {
             Ok(row) => row,
+            // Bytes in memory give `csv` no read error to report, so what is left is want of memory.
             Err(_) => return Err(ScanFault::Memory),
         };
         number += 1;
