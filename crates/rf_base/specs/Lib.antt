@@ -1,5 +1,7 @@
+pub mod Asks
 pub mod Bytes
 pub mod Cause
+pub mod Clean
 pub mod Decimal
 pub mod FaultCounts
 pub mod FileName
@@ -7,10 +9,13 @@ pub mod Input
 pub mod Khz
 pub mod LineBuffer
 pub mod Lines
+pub mod Mem
 pub mod Name
 pub mod Padded
 pub mod Piece
 pub mod Reader
+pub mod Real
 pub mod Script
 pub mod Shelf
+pub mod Status
 pub mod Told

@@ -1,5 +1,5 @@
 -- What a shelf answers of its files.
-use Rattle.std.specs.Prelude.{◌≡◌, ◌<◌, ◌≤◌, ℕ, List, [], ◌∷◌, length, Some, None, Ok, Err, Result, Vec, unwrap_or, if◌then◌else◌}
+use Rattle.std.specs.Prelude.{◌≡◌, ◌<◌, ◌≤◌, ⊤, ℕ, Bool, true, false, List, [], ◌∷◌, ◌++◌, length, Some, None, Ok, Err, Result, Vec, unwrap_or, if◌then◌else◌}
 use Rattle.std.specs.Str.{bytes_eq}
 use Rattle.std.specs.declared.alloc.Global.{Global}
 use Rattle.std.specs.declared.option.Option.{Option}
@@ -34,3 +34,20 @@ file_of (file ∷ files) name = if bytes_eq file.0 name then Some file.1.items e
 -- what a shelf without faults tells of a name: its first file's bytes, and none where it has no file
 abbrev pub clean_file_of : List (List ℕ × Vec ℕ Global) → List ℕ → Option (Option (List ℕ))
 clean_file_of files name = Some (Some (unwrap_or (file_of files name) []))
+
+-- an ask: the name that was asked for, and whether it failed
+abbrev pub Ask : Type 0
+Ask = List ℕ × Bool
+
+-- Asks that are told grow by these. What tells goes on telling.
+abbrev pub AppendsAsks : Option (List Ask) → Option (List Ask) → List Ask → Type 0
+AppendsAsks None new more = ⊤
+AppendsAsks (Some before) None more = ⊥
+AppendsAsks (Some before) (Some after) more = after ≡ before ++ more
+
+-- A fetch is one ask, of this name, which failed where the fetch did. After want of memory nothing is said.
+abbrev pub AsksOnce : Option (List Ask) → Option (List Ask) → List ℕ → Result (Vec ℕ Global) Fetch → Type 0
+AsksOnce old new name (Ok found) = AppendsAsks old new ((name, false) ∷ [])
+AsksOnce old new name (Err Failed) = AppendsAsks old new ((name, true) ∷ [])
+AsksOnce old new name (Err Large) = AppendsAsks old new ((name, false) ∷ [])
+AsksOnce old new name (Err Memory) = Unit {0}

@@ -1,9 +1,11 @@
 //! A source, a sink and a shelf in memory that never fail.
 
-ghost use Rattle.std.specs.Prelude.{◌≡◌, ◌≤◌, ℕ, List, Some, None, drop, vec_len};
+ghost use Rattle.std.specs.Prelude.{◌≡◌, ◌≢◌, ◌≤◌, ℕ, List, [], Some, None, Ok, Err, IfOk, length, min, vec_len};
+ghost use Rattle.std.specs.Io.KnownBytes.{ReadConsumes};
 ghost use Rattle.std.specs.declared.option.Option.{Option};
-ghost use Rattle.rf_base.specs.Shelf.{clean_file_of};
+ghost use Rattle.rf_base.specs.Shelf.{AsksOnce, Fetches, clean_file_of};
 
+use crate::asks::Asks;
 use crate::file_name::FileName;
 use crate::mem_shelf::{copy_file, find_file};
 use crate::outside::{Failed, Sink, Source};
@@ -28,11 +30,17 @@ impl CleanSource {
 }
 
 impl Source for CleanSource {
-    ghost left = { λ s. Some (drop s.given s.bytes.items) };
+    ghost use Rattle.rf_base.specs.Clean.{left_in};
+
+    ghost left = { λ s. Some (left_in s) };
 
     ghost faults = { λ _. 0 };
 
-    fn read(&mut self, room: &mut [u8]) -> Result<usize, Failed> {
+    fn read(&mut self, room: &mut [u8]) -> Result<usize, Failed>
+        ensures bound { IfOk result (λ count. count ≤ length room.new) }
+        ensures bytes { ReadConsumes (Some (left_in self.old)) (Some (left_in self.new)) result room.new }
+        ensures all { result ≡ Ok (min (length room.old) (length (left_in self.old))) }
+    {
         let count = room.len().min(self.bytes.len() - self.given);
         let end = self.given + count;
         room[..count].copy_from_slice(&self.bytes[self.given..end]);
@@ -57,7 +65,9 @@ impl Sink for CleanSink {
 
     ghost faults = { λ _. 0 };
 
-    fn write(&mut self, piece: &[u8]) -> Result<usize, Failed> {
+    fn write(&mut self, piece: &[u8]) -> Result<usize, Failed>
+        ensures whole { result ≡ Ok (length piece.now) }
+    {
         Ok(piece.len())
     }
 }
@@ -66,23 +76,40 @@ impl Sink for CleanSink {
 #[derive(Drop)]
 pub struct CleanShelf {
     files: Vec<(FileName, Vec<u8>)>,
+    asks: Asks,
 }
 
 impl CleanShelf {
     /// A shelf of these files.
     pub fn new(files: Vec<(FileName, Vec<u8>)>) -> Self
-        ensures { (name : List ℕ) → ⟦<CleanShelf as Shelf>⟧.file result name ≡ clean_file_of files.items name }
+        ensures files { (name : List ℕ) → ⟦<CleanShelf as Shelf>⟧.file result name ≡ clean_file_of files.items name }
+        ensures asks { ⟦<CleanShelf as Shelf>⟧.asked result ≡ Some [] }
     {
-        CleanShelf { files }
+        let asks = Asks::new(*files.allocator());
+        CleanShelf { files, asks }
     }
 }
 
 impl Shelf for CleanShelf {
+    ghost use Rattle.rf_base.specs.Asks.{asks_in};
+
     ghost file = { λ s name. clean_file_of s.files.items name };
 
     ghost faults = { λ _ name. 0 };
 
-    fn fetch(&mut self, alloc: Global, name: &str, limit: usize) -> Result<Vec<u8>, Fetch> {
+    ghost asked = { λ s. Some (asks_in s.asks) };
+
+    fn fetch(&mut self, alloc: Global, name: &str, limit: usize) -> Result<Vec<u8>, Fetch>
+        ensures bound { IfOk result (λ bytes. vec_len bytes ≤ limit) }
+        ensures told { Fetches (clean_file_of self.old.files.items name.now) limit result }
+        ensures kept { self.new.files ≡ self.old.files }
+        ensures asks { AsksOnce (Some (asks_in self.old.asks)) (Some (asks_in self.new.asks)) name.now result }
+        ensures found { result ≢ Err Fetch.Failed }
+    {
+        let Ok(asked) = self.asks.open(alloc, name) else {
+            return Err(Fetch::Memory);
+        };
+        self.asks.note(asked, false);
         match find_file(self.files.as_slice(), name) {
             Some(bytes) => copy_file(alloc, bytes, limit),
             None => Ok(Vec::new(alloc)),

@@ -2,6 +2,7 @@
 //! lines among them.
 #![tactic(auto)]
 
+mod asks;
 mod byte_reader;
 mod clean;
 mod decimal;
@@ -20,6 +21,7 @@ mod real;
 mod shelf;
 mod status;
 
+pub use asks::Asked;
 pub use clean::{CleanShelf, CleanSink, CleanSource};
 pub use decimal::{Decimal, read_decimal, read_number};
 pub use file_name::FileName;

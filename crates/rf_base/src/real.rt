@@ -1,13 +1,15 @@
 //! The real outside: a reader as a source, a writer as a sink, a folder as a shelf. Each counts its faults, and tells no contents.
 
-ghost use Rattle.std.specs.Prelude.{◌≤◌, ◌<◌, ◌+◌, None, IfOk, OnErr, vec_len};
+ghost use Rattle.std.specs.Prelude.{◌≡◌, ◌≤◌, ◌<◌, ◌+◌, None, IfOk, OnErr, length, vec_len};
+ghost use Rattle.std.specs.IoError.{error_kind};
+ghost use Rattle.rf_base.specs.Real.{fetch_of};
 
 use crate::fault_counts::FaultCounts;
 use crate::outside::{Failed, Sink, Source};
 use crate::shelf::{Fetch, Shelf};
 use std::alloc::Global;
 use std::fs;
-use std::io::{Read, Write};
+use std::io::{Error, ErrorKind, Read, Write};
 use std::rt::Files;
 
 /// A reader, as standard input, as a source.
@@ -72,6 +74,9 @@ impl<W: Write> Sink for StdSink<W> {
 
 const CHUNK: usize = 65_536;
 
+/// How often a read is tried that is interrupted.
+const TRIES: usize = 1_001;
+
 /// The files of the working folder.
 #[derive(Drop)]
 pub struct FolderShelf<R> {
@@ -96,19 +101,46 @@ impl<R: Files> Shelf for FolderShelf<R> {
 
     ghost faults = { λ s name. count_of s.counts name };
 
+    ghost asked = { λ _. None };
+
     fn fetch(&mut self, alloc: Global, name: &str, limit: usize) -> Result<Vec<u8>, Fetch> {
         if self.counts.open(alloc, name).is_err() {
             return Err(Fetch::Memory);
         }
         let fetched = match fs::open(&self.files, name) {
             Ok(mut file) => read_whole(alloc, &mut file, limit),
-            Err(_) => Err(Fetch::Failed),
+            Err(error) => Err(fault_of(&error)),
         };
         if fetched == Err(Fetch::Failed) {
             self.counts.raise(name);
         }
         fetched
     }
+}
+
+/// What the system's error means: want of memory where it says so.
+fn fault_of(error: &Error) -> Fetch
+    ensures { result ≡ fetch_of (error_kind error.now) }
+{
+    if error.kind() == ErrorKind::OutOfMemory {
+        Fetch::Memory
+    } else {
+        Fetch::Failed
+    }
+}
+
+/// One read, tried again where it was interrupted.
+fn read_some<F: Read>(file: &mut F, room: &mut [u8]) -> Result<usize, Fetch>
+    ensures { IfOk result (λ count. count ≤ length room.new) }
+{
+    for _ in 0..TRIES {
+        match file.read(room) {
+            Ok(count) => return Ok(count),
+            Err(error) if error.kind() == ErrorKind::Interrupted => {}
+            Err(error) => return Err(fault_of(&error)),
+        }
+    }
+    Err(Fetch::Failed)
 }
 
 /// All that a reader gives, if it has at most `limit` bytes.
@@ -120,9 +152,7 @@ fn read_whole<F: Read>(alloc: Global, file: &mut F, limit: usize) -> Result<Vec<
         return Err(Fetch::Memory);
     };
     for _ in 0..u64::MAX {
-        let Ok(count) = file.read(chunk.as_mut_slice()) else {
-            return Err(Fetch::Failed);
-        };
+        let count = read_some(file, chunk.as_mut_slice())?;
         if count == 0 {
             return Ok(bytes);
         }

@@ -1,3 +1,7 @@
+//! How a call of the program ended.
+
+ghost use Rattle.std.specs.Prelude.{◌≡◌};
+
 /// How a call of the program ended, numbered as the process's exit status.
 #[derive(Clone, Copy, PartialEq, Eq)]
 pub enum Status {
@@ -17,4 +21,15 @@ pub enum Status {
     Memory = 6,
     /// The input is too long.
     Long = 7,
+}
+
+impl Status {
+    ghost use Rattle.rf_base.specs.Status.{exit_code_of};
+
+    /// The exit status of the process.
+    pub fn exit_code(self) -> u8
+        ensures { result ≡ exit_code_of self }
+    {
+        self as u8
+    }
 }
