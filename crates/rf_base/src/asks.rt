@@ -65,6 +65,7 @@ impl Asks {
     {
         self.items.push(Asked { name, failed }).unwrap();
     }
+
     /// All of them.
     pub fn all(&self) -> &[Asked]
         ensures { map ask_of result.now ≡ asks_in self.now }
