@@ -1,3 +1,5 @@
+//! From the case of a show to the problem that a solver works on.
+
 ghost use Rattle.std.specs.Prelude.{◌≡◌, IfOk};
 ghost use Rattle.rf_problem.specs.Problem as problem;
 ghost use Rattle.rf_show.specs.Case.{case_of};

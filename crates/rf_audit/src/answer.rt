@@ -1,3 +1,5 @@
+//! What is answered to whoever has a log audited.
+
 use rf_log::Cause;
 
 /// What an audit of a log finds.

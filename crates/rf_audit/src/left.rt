@@ -1,3 +1,5 @@
+//! Where an audit stands on a path: what the path's decisions leave, and who is fixed by them.
+
 ghost use Rattle.std.specs.Prelude.{◌≡◌, ℕ, ◌<◌, List, ◌∷◌, [], reverse, length, IfOk};
 ghost use Rattle.rf_log.specs.declared.cond.Cond.{Cond as CondData};
 ghost use Rattle.rf_show.specs.Case.{case_of};

@@ -1,3 +1,5 @@
+//! The indices of one carrier as marks in a row, some of which are taken out.
+
 ghost use Rattle.std.specs.Prelude.{◌≡◌, ℕ, ◌<◌, ◌≤◌, ◌&&◌, not, List, Bool, true, false, length, IfOk, MatchOption, nat_le, nat_lt};
 ghost use Rattle.rf_log.specs.Box.{is_met};
 ghost use Rattle.rf_audit.specs.Left.{has, IsFirstIn, HasNoneIn};

@@ -1,3 +1,5 @@
+//! What is answered to the question which locks are in the way.
+
 use rf_base::Items;
 use rf_log::LogLine;
 

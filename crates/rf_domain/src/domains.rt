@@ -1,3 +1,5 @@
+//! Sets of indices of all carriers, side by side.
+
 ghost use Rattle.std.specs.Prelude.{◌≡◌, ℕ, List, Bool, true, ◌<◌, ◌≤◌, [], length, slice_index_or, IfOk, MatchOption, ◌↔◌};
 ghost use Rattle.rf_domain.specs.Indices.{HasNoneFrom, IsNext, IsOnly, IsRun, between, outside, count_below};
 ghost use Rattle.rf_domain.specs.Sets.{size_of, sizes, has, full, without, with_all, total_of, AreCounts, AreFull, AreWithin};

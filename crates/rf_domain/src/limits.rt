@@ -1,3 +1,5 @@
+//! How many carriers and indices domains are made for.
+
 /// The most carriers that domains are made for.
 pub const CARRIER_LIMIT: usize = 128;
 

@@ -1,3 +1,5 @@
+//! The set of the indices of one carrier, with its count and its least index at hand.
+
 ghost use Rattle.std.specs.Prelude.{◌≡◌, ℕ, List, Bool, true, not, ◌<◌, ◌≤◌, ◌&&◌, ◌||◌, length, IfOk, MatchOption, ◌↔◌};
 ghost use Rattle.rf_domain.specs.Indices.{flag, between, flags_of, IsKept, HasNoneFrom, IsNext, IsOnly, IsRun, IsWhole, IsWithin, count_below};
 

@@ -1,3 +1,5 @@
+//! Ranges of bits in rows of words: how they are cleared, filled, counted and searched.
+
 ghost use Rattle.std.specs.Prelude.{◌≡◌, ℕ, true, false, not, ◌+◌, ◌*◌, ◌<◌, ◌≤◌, ◌^◌, ◌&&◌, ◌||◌, ◌==◌, List, length, MatchOption, ◌↔◌};
 ghost use Rattle.std.specs.Int.{bit_at};
 ghost use Rattle.rf_domain.specs.Indices.{between, has_bit, IsFirstBit, IsFirstClear, IsLowest, IsPadded, HasBitsWithin, count_below};

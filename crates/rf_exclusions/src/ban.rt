@@ -1,3 +1,5 @@
+//! Bans, and which frequencies they touch.
+
 ghost use Rattle.std.specs.Prelude.{◌≡◌};
 ghost use Rattle.rf_exclusions.specs.Touched.{is_touched_by_ban};
 

@@ -1,3 +1,5 @@
+//! A closed interval of numbers.
+
 ghost use Rattle.std.specs.Prelude.{◌≡◌, ◌+◌, ◌<◌, ◌↔◌, IsTrue};
 ghost use Rattle.rf_exclusions.specs.Spans.{joined};
 

@@ -1,3 +1,5 @@
+//! Sets of numbers that are kept as intervals: how one interval is added or cut out.
+
 ghost use Rattle.std.specs.Prelude.{◌≡◌, ℕ, ◌+◌, ◌<◌, ◌≤◌, ◌↔◌, ◌||◌, ◌&&◌, not, Bool, true, false, [], IsTrue, nat_le, nat_lt, IfOk, OnOk, OnErr, MatchOption};
 ghost use Rattle.rf_exclusions.specs.Spans.{has_in, between, IsEmptySet, IsOnly, IsWithin, Misses, joined, with_span, without_span};
 ghost use Rattle.std.specs.List.{list_all};

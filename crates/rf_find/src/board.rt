@@ -1,3 +1,5 @@
+//! A board of placed carriers, which counts for each cell the windows that lie over it.
+
 ghost use Rattle.std.specs.Prelude.{◌<◌, length, IfSome};
 
 use crate::joins::bit;

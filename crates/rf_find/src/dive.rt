@@ -1,3 +1,5 @@
+//! The greedy dive: carriers are placed one after another, the hardest first.
+
 use crate::board::{Board, Spot};
 use crate::world::{Class, World};
 use rf_base::NoMemory;

@@ -1,3 +1,5 @@
+//! Drawn numbers that come out the same in each run.
+
 /// A fixed row of numbers that look as if they were drawn.
 #[derive(Clone, Copy)]
 pub struct Draws {

@@ -1,3 +1,5 @@
+//! Carriers that push one another away until all of them are placed.
+
 use crate::board::{Board, HEAVY, Spot, form_of, near_both, width_four, width_three};
 use crate::draws::Draws;
 use crate::limits::{EJECT_MOVES, EJECT_STEPS, MAX_STEPS};

@@ -1,3 +1,5 @@
+//! What comes out of the look for a plan.
+
 use rf_base::Items;
 
 /// What is advised for a carrier.

@@ -1,3 +1,5 @@
+//! The grid of cells on which a plan is looked for, and how kilohertz become cells.
+
 ghost use Rattle.std.specs.Prelude.{◌<◌, length};
 
 use rf_base::NoMemory;

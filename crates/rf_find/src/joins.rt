@@ -1,3 +1,5 @@
+//! Who is together with whom, in twos and threes, as masks.
+
 ghost use Rattle.std.specs.Prelude.{◌<◌, length};
 
 use rf_base::NoMemory;

@@ -1,3 +1,5 @@
+//! Limits of the look for a plan: steps, moves, starts, samples and size.
+
 /// The most steps that are counted before a search: a step is a range of frequencies that is marked, or four that are looked at.
 /// No carrier is moved once they are taken.
 pub const MAX_STEPS: u64 = 150_000_000;

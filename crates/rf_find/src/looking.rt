@@ -1,3 +1,5 @@
+//! The way from a problem to what is advised: dives, pushes and new starts, within a bounded number of steps.
+
 ghost use Rattle.std.specs.Prelude.{◌≡◌, ◌<◌, ◌≤◌, length, IfOk};
 ghost use Rattle.rf_find.specs.declared.limits.TheConstants.{MAX_STEPS};
 

@@ -1,3 +1,5 @@
+//! How the windows of a form are marked over the cells of one class.
+
 /// Changes how many windows lie over each cell, where the form `coef * cell + sum` of a cell is at most `width` from 0. The
 /// numbers say by how much the count of a cell differs from the one before it; the last of them is no cell's.
 #[inline]

@@ -1,3 +1,5 @@
+//! The forms of the rule table, each turned to the carrier that is looked for.
+
 use rf_base::NoMemory;
 use rf_terms::{Kind, MARGINS, asks, coefficients, kinds_with, place, roles};
 use std::alloc::Global;

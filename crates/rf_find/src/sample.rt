@@ -1,3 +1,5 @@
+//! Samples: sets of cells to start from, whose products seldom meet.
+
 use crate::draws::Draws;
 use crate::grid::divisor;
 use crate::limits::{SAMPLES, STARTS};

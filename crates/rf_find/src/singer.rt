@@ -1,3 +1,5 @@
+//! Singer's sets of numbers: no difference of two of them comes twice.
+
 use rf_base::NoMemory;
 use std::alloc::Global;
 

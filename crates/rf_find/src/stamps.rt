@@ -1,3 +1,5 @@
+//! Which cells rest for some moves before they are taken again.
+
 use crate::world::World;
 use rf_base::NoMemory;
 use std::alloc::Global;

@@ -1,3 +1,5 @@
+//! A problem in classes of alike carriers over the cells of a grid.
+
 ghost use Rattle.std.specs.Prelude.{◌<◌, length};
 
 use crate::grid::Grid;

@@ -1,3 +1,5 @@
+//! One condition of a path or of a nogood line.
+
 /// What an index of one carrier has to meet: that it is from `lo` to `hi`, or, where `inside` is false, that it is not.
 /// Carriers are numbered from 0; indices are channel numbers of the carrier's profile.
 #[derive(Clone, Copy, Default, PartialEq, Eq)]

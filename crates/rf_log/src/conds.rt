@@ -1,3 +1,5 @@
+//! Short lists of conditions, kept in place.
+
 ghost use Rattle.std.specs.Prelude.{◌≡◌, [], ◌∷◌, ◌++◌, OnOk, OnErr};
 
 use crate::cond::Cond;

@@ -1,3 +1,5 @@
+//! Hints, by which a nogood line takes indices out of its box.
+
 use rf_terms::Kind;
 
 /// Why indices are removed from a box.

@@ -1,3 +1,5 @@
+//! Laws of logs: what a closed walk tells, what a settled box lies within, and when sets are tested rightly.
+
 ghost use Rattle.rf_log.specs.Laws.{ClosedHasNoPlan, SetsAreTested, SettledIsClosed};
 
 /// Where the walk through a log closes the tree, the case has no plan, whoever made the log.

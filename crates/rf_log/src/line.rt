@@ -1,3 +1,5 @@
+//! The lines of a log as values.
+
 use crate::conds::Conds;
 use crate::hint::Hint;
 use rf_base::Items;

@@ -1,3 +1,5 @@
+//! How a log's text falls into lines, and which line ends it.
+
 ghost use Rattle.std.specs.Prelude.{◌≡◌, ◌<◌, ◌∷◌, [], MatchOption, length};
 ghost use Rattle.rf_log.specs.LogText as text;
 ghost use Rattle.rf_log.specs.Words as spec;

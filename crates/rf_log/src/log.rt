@@ -1,3 +1,5 @@
+//! A whole log, read from its text.
+
 ghost use Rattle.std.specs.Prelude.{◌≡◌, ◌<◌, ◌++◌, ◌∷◌, [], Ok, length, OnOk, MatchResult};
 ghost use Rattle.rf_log.specs.LogText as spec;
 

@@ -1,3 +1,5 @@
+//! Numbers for the names that a log speaks of.
+
 ghost use Rattle.std.specs.Prelude.{◌≡◌, ◌<◌, [], length, IfOk, OnOk};
 ghost use Rattle.rf_log.specs.Names as spec;
 

@@ -1,3 +1,5 @@
+//! The words of a log line, each read as what stands at its place: a name, a number, a side, a cut or a kind.
+
 ghost use Rattle.std.specs.Prelude.{◌≡◌, ℕ, List, option_map};
 ghost use Rattle.std.specs.declared.option.Option.{Option};
 ghost use Rattle.rf_base.specs.Decimal.{number_of};

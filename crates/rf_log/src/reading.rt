@@ -1,3 +1,5 @@
+//! How one line of a log is read, by its first word.
+
 ghost use Rattle.std.specs.Prelude.{◌≡◌, ◌≤◌, [], length, IfOk, option_map, ℕ, List};
 ghost use Rattle.rf_log.specs.Reading as spec;
 

@@ -1,3 +1,5 @@
+//! What can be said of a log, and why a line of it doesn't hold.
+
 /// Why a line is invalid, in the order in which causes are asked.
 #[derive(Clone, Copy, PartialEq, Eq)]
 pub enum Cause {

@@ -1,3 +1,5 @@
+//! How a line of a log falls into words, which are taken one after another.
+
 ghost use Rattle.std.specs.Prelude.{◌≡◌, ◌∷◌, [], MatchOption, option_map};
 ghost use Rattle.rf_log.specs.Operands as operand;
 ghost use Rattle.rf_log.specs.Words as spec;

@@ -1,3 +1,5 @@
+//! How one line of a log is written.
+
 ghost use Rattle.std.specs.Prelude.{◌≡◌, ◌<◌, ◌≤◌, ◌++◌, ◌∷◌, [], ◌+◌, IfOk, OnOk, length, map, decimal, string_bytes};
 ghost use Rattle.std.specs.List.{All, flat_map};
 ghost use Rattle.rf_log.specs.LogText.{IsCondBelow, IsHintBelow, IsLineBelow};

@@ -1,3 +1,5 @@
+//! A carrier as a solver sees it: frequencies, flags of those that are allowed, and what it asks.
+
 ghost use Rattle.std.specs.Prelude.{◌≡◌, ◌<◌, ◌≤◌, length};
 ghost use Rattle.std.specs.List.Sorted.{IsStrictlyIncreasing};
 ghost use Rattle.rf_terms.specs.Forms.{AreFrequencies};

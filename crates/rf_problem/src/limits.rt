@@ -1,3 +1,5 @@
+//! How large the numbers of a problem may be.
+
 /// The most channels of one carrier.
 pub const MAX_CHANNELS: u32 = 65_536;
 

@@ -1,3 +1,5 @@
+//! The few carriers of a small mask as a list.
+
 ghost use Rattle.std.specs.Prelude.{◌≡◌, ◌≤◌, length, take};
 ghost use Rattle.rf_zones.specs.declared.mask.TheConstants.{MAX_CARRIERS};
 ghost use Rattle.rf_problem.specs.Problem.{members_of};

@@ -1,3 +1,5 @@
+//! Problems: how they are made, carrier by carrier, and what is asked of them.
+
 ghost use Rattle.std.specs.Prelude.{◌≡◌, ◌<◌, ◌≤◌, All, [], length, IsTrue, OnOk, OnErr};
 ghost use Rattle.std.specs.List.Sorted.{IsStrictlyIncreasing};
 ghost use Rattle.rf_terms.specs.Forms.{AreFrequencies};

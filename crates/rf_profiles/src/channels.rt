@@ -1,3 +1,5 @@
+//! The channels that a profile's ranges make, and how they are numbered.
+
 ghost use Rattle.std.specs.Prelude.{◌≡◌, ℕ, ◌<◌, ◌≤◌, ◌∷◌, ◌++◌, [], length, slice_get, Some, IfSome, IfNone, Contains};
 ghost use Rattle.std.specs.List.Sorted.{IsStrictlyIncreasing};
 ghost use Rattle.rf_profiles.specs.Channels.{channels};

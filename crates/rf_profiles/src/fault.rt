@@ -1,3 +1,5 @@
+//! What can be wrong with a file of profiles.
+
 use thiserror::Error;
 
 /// A field of a profile in a file, in the order in which they are judged.

@@ -1,3 +1,5 @@
+//! One make of transmitter: its channels, its spacing, its half width and its margins.
+
 ghost use Rattle.std.specs.Prelude.{◌≡◌, ◌≤◌, true};
 ghost use Rattle.std.specs.List.{list_all};
 ghost use Rattle.rf_profiles.specs.Profile.{is_width, margin_of, margin_widths, profile_of, wider_margins, wider_profile, widths};

@@ -1,3 +1,5 @@
+//! A range: frequencies at equal steps.
+
 ghost use Rattle.std.specs.Prelude.{◌≡◌, ℕ, ◌<◌, ◌≤◌, length, slice_get, Some, IfSome, IfNone, Contains};
 ghost use Rattle.std.specs.Option.{SomeIff};
 ghost use Rattle.rf_profiles.specs.Range.{IsRange, span, frequencies, range_of};

@@ -1,3 +1,5 @@
+//! What can be wrong with a scan file.
+
 use thiserror::Error;
 
 /// Why a scan file gives no points.

@@ -1,3 +1,5 @@
+//! What the fields of a record say: whether it is passed over, and the point that it gives.
+
 ghost use Rattle.std.specs.Prelude.{◌≡◌, option_map};
 ghost use Rattle.csv.specs.Records.{fields_of};
 ghost use Rattle.rf_scan.specs.Scan as spec;

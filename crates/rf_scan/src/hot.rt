@@ -1,3 +1,5 @@
+//! The points of a scan that are at or above a threshold.
+
 ghost use Rattle.std.specs.Prelude.{◌≡◌, ◌↔◌, ℕ, IfOk, Contains};
 ghost use Rattle.std.specs.List.Sorted.{IsStrictlyIncreasing};
 ghost use Rattle.rf_scan.specs.Hot as hot_spec;

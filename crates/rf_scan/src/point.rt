@@ -1,3 +1,5 @@
+//! One measured point of a scan.
+
 use rf_base::Decimal;
 
 /// A level at a frequency.

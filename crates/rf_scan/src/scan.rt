@@ -1,3 +1,5 @@
+//! A scan file read record by record.
+
 ghost use Rattle.std.specs.Prelude.{◌≡◌, ◌≢◌, ◌≤◌, ◌+◌, ◌∷◌, List, Ok, Err, IfOk, IfErr, length};
 ghost use Rattle.csv.specs.Records.{fields_of};
 ghost use Rattle.rf_scan.specs.Scan as spec;

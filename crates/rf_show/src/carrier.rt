@@ -1,3 +1,5 @@
+//! One carrier of a show: who it is, where and when it is on, and at which frequency.
+
 use rf_base::{Khz, Name};
 use rf_zones::{Timed, Times};
 

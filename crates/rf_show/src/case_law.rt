@@ -1,3 +1,5 @@
+//! The law that the case of a show asks what the show asks.
+
 ghost use Rattle.rf_show.specs.Case.{CaseIsAsked};
 
 use rf_log::sets_are_tested;

@@ -1,3 +1,5 @@
+//! All that can be changed of a show, edit by edit.
+
 use rf_base::{Decimal, FileName, Items, Khz, Name};
 use rf_exclusions::{HotPoints, Sep};
 use rf_profiles::Profile;

@@ -1,3 +1,5 @@
+//! The frequencies of all carriers changed at once.
+
 ghost use Rattle.std.specs.Prelude.{◌≡◌, ◌≤◌, map, nat_eq, true, length, vec_capacity};
 ghost use Rattle.rf_show.specs.After.{placed};
 

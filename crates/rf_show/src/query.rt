@@ -1,3 +1,5 @@
+//! What is asked of a show: channels, spacings, margins, what is allowed, and who is together.
+
 ghost use Rattle.std.specs.Prelude.{◌≡◌, ◌<◌, ◌≤◌, All, IsTrue, Some, find, is_some, length, true};
 ghost use Rattle.std.specs.Option.{option_copied};
 ghost use Rattle.rf_show.specs.Show.{is_narrow, is_profile};

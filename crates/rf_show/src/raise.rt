@@ -1,3 +1,5 @@
+//! Profiles that ask for more: wider spacings and margins.
+
 ghost use Rattle.std.specs.Prelude.{◌≡◌, ◌≤◌, map, true, vec_capacity};
 ghost use Rattle.std.specs.List.{list_all};
 ghost use Rattle.rf_profiles.specs.Profile.{is_width, wider_profile, widths};

@@ -1,3 +1,5 @@
+//! Why a show may refuse an edit.
+
 /// Why an edit is refused. Where several reasons hold, the first in this order is the answer.
 #[derive(Clone, Copy, PartialEq, Eq)]
 pub enum Refusal {

@@ -1,3 +1,5 @@
+//! The show itself: its parts, how it is edited, and how an edit is taken back.
+
 ghost use Rattle.std.specs.Prelude.{◌≡◌, ◌≤◌, true, length, None, Some, Ok, IfOk, IfErr, OnErr, IsSome, IsTrue};
 ghost use Rattle.rf_show.specs.After.{after, edited, is_edit, refusal};
 ghost use Rattle.rf_show.specs.Limits.{most_carriers, most_raised};

@@ -1,3 +1,5 @@
+//! The steps that lead back from an edit.
+
 use crate::carrier::Carrier;
 use crate::change::Change;
 use crate::zone_change::ZoneChange;

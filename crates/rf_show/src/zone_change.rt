@@ -1,3 +1,5 @@
+//! Changes of zones and of how they are coupled, each with the one that leads back.
+
 ghost use Rattle.std.specs.Prelude.{◌≡◌, ◌≤◌, IsSome, true, length};
 ghost use Rattle.rf_show.specs.Limits.{most_zones};
 ghost use Rattle.rf_show.specs.ZoneChange.{zones_changed, zones_fit};

@@ -1,3 +1,5 @@
+//! The log of a search on its way to a sink, once each line is seen to be one that can be written.
+
 ghost use Rattle.std.specs.Prelude.{◌≡◌, All, length};
 ghost use Rattle.rf_search.specs.Out.{IsWritable};
 ghost use Rattle.rf_solving.specs.LogWriter.{HasRoles};

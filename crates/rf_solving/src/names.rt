@@ -1,3 +1,5 @@
+//! The names of a show's carriers, in the show's order.
+
 ghost use Rattle.std.specs.Prelude.{◌≡◌, IfOk};
 ghost use Rattle.rf_show.specs.Show.{carrier_names};
 

@@ -1,3 +1,5 @@
+//! Laws of plans: a plan is an edit that the show takes, in frequencies that edits have.
+
 ghost use Rattle.rf_solving.specs.Placing.{PlanIsAdmitted, PlanIsInKhz};
 
 use rf_show::case_is_asked;

@@ -1,3 +1,5 @@
+//! A search of a show: its log is written, and its verdict and its plan are answered.
+
 ghost use Rattle.std.specs.Prelude.{◌≡◌, ◌≤◌, ℕ, List, Err, IfOk};
 ghost use Rattle.std.specs.Io.KnownBytes.{Appends};
 ghost use Rattle.rf_base.specs.Cause.{Rose};

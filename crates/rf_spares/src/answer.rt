@@ -1,3 +1,5 @@
+//! What is answered to the question for spare channels.
+
 use rf_base::Items;
 
 /// Channels of a profile on which a further carrier could be added.

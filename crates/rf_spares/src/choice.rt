@@ -1,3 +1,5 @@
+//! Which channels are spare, and which of them can be taken side by side.
+
 ghost use Rattle.std.specs.Prelude.{◌≡◌, ◌<◌, ◌≤◌, ◌+◌, All, IfOk, length};
 ghost use Rattle.rf_show.specs.Limits.{most_carriers};
 ghost use Rattle.rf_rules.specs.Instances.{ats_of};

@@ -1,3 +1,5 @@
+//! How spare channels are told, run by run.
+
 ghost use Rattle.std.specs.Prelude.{◌≡◌, ◌<◌, ◌≤◌, ◌-◌, ◌++◌, ◌∷◌, [], All, ℕ, IfOk, MatchOption, OnOk, codes, decimal, length, not, string_bytes};
 ghost use Rattle.std.specs.List.{flat_map, range_with_len};
 ghost use Rattle.rf_base.specs.Lines.{line_of};

@@ -1,3 +1,5 @@
+//! The value of a kind's form at frequencies, and whether it is too near to 0.
+
 ghost use Rattle.std.specs.Prelude.{◌≡◌, ◌<◌, ◌≤◌, ◌↔◌, pos, length, IsTrue, map, unsigned_abs};
 ghost use Rattle.rf_terms.specs.Kinds.{AllSmall, roles_of};
 ghost use Rattle.rf_terms.specs.Forms.{value_of, form, AreFrequencies, IsBroken};

@@ -1,3 +1,5 @@
+//! The rule table: kinds with their coefficients, their roles, their order and their margins.
+
 ghost use Rattle.std.specs.Prelude.{◌≡◌, ◌<◌, ◌≤◌, length, pos, slice_index_or};
 ghost use Rattle.rf_terms.specs.Kinds.{AllSmall, IsSmall};
 ghost use Rattle.rf_terms.specs.Kinds as table;

@@ -1,3 +1,5 @@
+//! The law that the rule table is in order.
+
 ghost use Rattle.rf_terms.specs.Laws.{KindLaws};
 
 /// Every kind stands in the table and has two to four small coefficients; spacing alone has no victim; a kind's text is

@@ -1,3 +1,5 @@
+//! Windows: the frequencies at which one carrier breaks a rule while the others stand.
+
 ghost use Rattle.std.specs.Prelude.{◌≡◌, ◌<◌, ◌≤◌, ◌+◌, length, unsigned_abs, ◌+ℤ◌, ◌*ℤ◌};
 ghost use Rattle.rf_terms.specs.Kinds.{IsSmall, roles_of};
 ghost use Rattle.rf_terms.specs.Forms.{AreFrequencies};

@@ -1,3 +1,5 @@
+//! One removal and its reason.
+
 use rf_log::Hint;
 
 /// A removal of the indices from `lo` to `hi` of a carrier, with its reason. A decision has none.

@@ -1,3 +1,5 @@
+//! Pieces of domains: what is taken out is kept as ranges, and put back from there.
+
 ghost use Rattle.std.specs.Prelude.{◌≡◌, ◌-◌, ◌<◌, ◌≤◌, length, reverse, drop, OnOk, OnErr};
 ghost use Rattle.rf_domain.specs.Indices.{between};
 ghost use Rattle.rf_domain.specs.Sets.{size_of, sizes, has, without};

@@ -1,3 +1,5 @@
+//! The trail: removals in the order in which they were made, and the way back.
+
 ghost use Rattle.std.specs.Prelude.{◌≡◌, ℕ, ◌<◌, ◌≤◌, ◌-◌, List, [], ◌∷◌, ◌++◌, not, length, reverse, drop, slice_get, Some, OnOk, OnErr, IfOk};
 ghost use Rattle.rf_log.specs.Box.{is_met};
 ghost use Rattle.rf_domain.specs.Sets.{size_of, sizes, has, total_of, AreCounts};

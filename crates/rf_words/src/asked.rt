@@ -1,3 +1,5 @@
+//! The tasks that a command line can name.
+
 use crate::word::Word;
 
 /// How many lines a demonstration may draw.

@@ -1,3 +1,5 @@
+//! One word of the command line.
+
 ghost use Rattle.std.specs.Prelude.{◌≡◌, IfOk};
 
 use std::alloc::{AllocError, Global};

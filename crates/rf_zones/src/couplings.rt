@@ -1,3 +1,5 @@
+//! How pairs of zones are coupled, in a table that holds each pair once.
+
 ghost use Rattle.std.specs.Prelude.{◌≡◌, ◌<◌, ◌≤◌, ◌+◌, ◌-◌, [], ◌++◌, length, take, drop, replicate, slice_set, slice_index_or, true};
 ghost use Rattle.std.specs.List.{list_all};
 ghost use Rattle.rf_zones.specs.Couplings.{is_apart};

@@ -1,3 +1,5 @@
+//! The minutes of the week that matter, each as a mask of the carriers that are on.
+
 ghost use Rattle.std.specs.Prelude.{◌≡◌, ℕ, ◌<◌, ◌≤◌, Bool, List, ◌||◌, true, false, IfOk, length, map, nat_eq};
 ghost use Rattle.std.specs.List.{list_all, list_any};
 ghost use Rattle.rf_zones.specs.Masks.{has_bits};

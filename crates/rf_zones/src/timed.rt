@@ -1,3 +1,5 @@
+//! Whoever has times, and whether several are on in one minute.
+
 ghost use Rattle.std.specs.Prelude.{◌≡◌, ℕ, ◌<◌, List, [], map, length, slice_index_or, true};
 ghost use Rattle.std.specs.List.{list_all, list_any};
 ghost use Rattle.rf_zones.specs.Slices.{share_minute, on_at};

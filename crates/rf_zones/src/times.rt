@@ -1,3 +1,5 @@
+//! The intervals of the week in which a carrier is on.
+
 ghost use Rattle.std.specs.Prelude.{◌≡◌, ◌<◌, ◌≤◌, [], ◌∷◌, ◌++◌, length};
 ghost use Rattle.std.specs.List.{list_any};
 ghost use Rattle.rf_zones.specs.Times.{IsTimes, is_on};

@@ -1,3 +1,5 @@
+//! The names of zones, the main zone first.
+
 ghost use Rattle.std.specs.Prelude.{◌≡◌, ◌<◌, ◌≤◌, [], ◌∷◌, ◌++◌, ◌-◌, length, take};
 ghost use Rattle.rf_zones.specs.ZoneNames.{main_zone};
 

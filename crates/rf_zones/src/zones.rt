@@ -1,3 +1,5 @@
+//! Zones: their names, their numbers, and which of them are coupled, near or far.
+
 ghost use Rattle.std.specs.Prelude.{◌≡◌, ◌≢◌, ℕ, ◌<◌, ◌≤◌, ◌&&◌, nat_eq, nat_lt, if◌then◌else◌, true, None, length, slice_get, Some, position};
 ghost use Rattle.rf_base.specs.Name.{same_name};
 ghost use Rattle.rf_zones.specs.Zones.{ZonesData, IsMutual, IsZones, coupling_of, pair_place, pairs, first_zones, heard, is_last_free, reach, same_pair, with_coupling, with_zone, without_last, zone_of};
