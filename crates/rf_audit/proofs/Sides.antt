@@ -116,16 +116,6 @@ module _ (sets : List (List Bool)) (side : Cond) (marks : List Bool) (at : marks
         ]
       ]
 
--- no index outside
-pub none-outside : (marks : List Bool) (from end : ℕ) → HasNoneIn marks 0 from → HasNoneIn marks end (length marks) → HasOutside marks from end → ⊥
-none-outside marks from end low high outside = elim outside.out [
-  | inl below ↦ true≢false (sym outside.here ∙ low outside.at (omega arith) below)
-  | inr past ↦ elim (cases_lt outside.at (length marks)) [
-    | inl known ↦ true≢false (sym outside.here ∙ high outside.at past known)
-    | inr out ↦ true≢false (sym outside.here ∙ get_or_past marks outside.at false out)
-  ]
-]
-
 -- what the sets tell of a decision
 pub tells-honest : (case : Case) (path : List Cond) (box : Box) (side : Cond) (b : Bool) → IsClosedTo case path box true → Covers case path box
     → Tells (HasBoth box side) b → Tells (IsHonest case path side) b
@@ -138,6 +128,3 @@ tells-honest case path box side false closed covers none = λ honest. none (reco
   left = (honest.left.0, covers.1 honest.living side.carrier honest.left.0 (honest.left.1 covers.0), honest.left.2);
   right = (honest.right.0, covers.1 honest.living side.carrier honest.right.0 (honest.right.1 covers.0), honest.right.2);
 })
-
-pub tells-dead : (case : Case) (path : List Cond) (box : Box) (side : Cond) → IsClosedTo case path box false → Tells (IsHonest case path side) false
-tells-dead case path box side dead honest = dead honest.living

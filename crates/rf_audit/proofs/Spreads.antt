@@ -13,13 +13,6 @@ use Rattle.rf_audit.specs.Left.{in_sets, fixed_at, with_target, AreChosen, AreFi
 use Rattle.rf_audit.proofs.Covers.{known_roles, known_in}
 use Rattle.rf_audit.proofs.Struck.{cleared-still, at-still}
 
--- one number more
-below-or : {P : ℕ → Type 0} (n : ℕ) → ((i : ℕ) → i < n → P i) → P n → (i : ℕ) → i < n + 1 → P i
-below-or {P} n before here i low = elim (cases_lt i n) [
-  | inl below ↦ before i below
-  | inr above ↦ let e : n ≡ i = omega arith in subst P e here
-]
-
 module _ (case : Case) (fixed : List (Option ℕ)) (old now new : List (List Bool)) (so_far : Falls case fixed old now) (step : Falls case fixed now new) where
   pub at-more : (kind : Kind) (place x n : ℕ)
       → ((roles : List ℕ) (at : ℕ) → length roles ≡ roles_of kind → at < n → (at ≡ place → ⊥) → AreFixed fixed roles place → slice_index roles at ≡ x → IsCleared case fixed (in_sets now) kind roles place)

@@ -1,10 +1,10 @@
 -- What lists of sets tell of the boxes that they stand for.
 use Rattle.std.proofs.Common.{◌≡◌, ℕ, ◌+◌, ◌<◌, ◌≤◌, List, [], length, Bool, true, false, not, ◌&&◌, ◌||◌, sym, ◌∙◌, ap, subst, inl, inr, IsTrue, get_or}
-use Rattle.std.specs.Prelude.{nat_lt, slice_index_or, ◌↔◌}
+use Rattle.std.specs.Prelude.{slice_index_or, ◌↔◌}
 use Rattle.std.specs.Bool.{Decides}
 use Rattle.std.proofs.lemmas.List.{get_or_default}
 use Rattle.std.proofs.Common.{add-one}
-use Rattle.std.proofs.lemmas.Bool.{cases_Bool, leb-true, le-leb, and_right, and_parts, and_from, not-true, not_from_false, ltb-true, and_left, true≢false}
+use Rattle.std.proofs.lemmas.Bool.{cases_Bool, leb-true, le-leb, and_right, and_parts, and_from, not-true, not_from_false, and_left, true≢false}
 use Rattle.std.proofs.lemmas.Bool.Decides.{same_from_decides}
 use Rattle.rf_exclusions.specs.declared.span.Span.{Span}
 use Rattle.rf_exclusions.specs.Spans.{has_in, IsWithin, Misses, IsEmptySet, between}
@@ -53,9 +53,6 @@ none_is case sets c b set is_box is iff =
             absurd (true≢false (sym here' ∙ not-true _ (all x (is_box.below c x here'))))
       ]),
     )
-
-pub below_from : (n : ℕ) (set : List Span) (rest : ℕ → Bool) → ((k : ℕ) → has_in set k ≡ (nat_lt k n && rest k)) → IsBelow n set
-below_from n set rest is k here = ltb-true k n (and_parts (nat_lt k n) (rest k) (sym (is k) ∙ here)).0
 
 pub read_at : (sets : List (List Span)) (i : ℕ) (set : List Span) → set ≡ get_or sets i set → i < length sets → set ≡ slice_index_or sets i []
 read_at sets i set is low = is ∙ get_or_default sets i set [] low

@@ -1,7 +1,6 @@
 -- The one index of a carrier, and what a rule hint asks.
-use Rattle.std.proofs.Common.{◌≡◌, ℕ, zero, suc, ◌+◌, ◌<◌, ◌≤◌, ◌==◌, List, [], ◌∷◌, length, Bool, true, false, not, ◌&&◌, ◌||◌, refl, sym, ◌∙◌, ap, subst, arith, inl, inr, map, take, set, get_or, ◌++◌, add-one}
-use Rattle.std.proofs.lemmas.List.{take_more, map-append}
-use Rattle.std.proofs.Math.Seq.{take-suc-set, take-set-lt}
+use Rattle.std.proofs.Common.{◌≡◌, ℕ, zero, suc, ◌<◌, ◌≤◌, ◌==◌, List, [], ◌∷◌, length, Bool, true, false, not, ◌&&◌, ◌||◌, refl, sym, ◌∙◌, ap, subst, arith, inl, inr, map, take, set}
+use Rattle.std.proofs.Math.Seq.{take-set-lt}
 use Rattle.std.specs.Prelude.{is_some, Option, Some, None, MatchOption, nat_lt, slice_index, slice_index_or}
 use Rattle.std.specs.List.{All, list_all}
 use Rattle.std.proofs.lemmas.Bool.{cases_Bool, cases_lt, and_parts, and_from, or_right, or_left, not-true, not_from_false, lt-ltb, leb-true, true≢false, false_from_ne_true, eq-eqb, and_right, or_parts, or_from, not_from_true, le-leb, eqb-true}
@@ -88,11 +87,6 @@ ruled_all case box kind roles target lo hi made others all =
           let ends = and_parts _ _ inside in
           or_right (not (between lo hi k)) _ (all k (leb-true lo k ends.0) (leb-true k hi ends.1))
     ]))
-
-pub step_map : (f : ℕ → ℕ) (freqs roles : List ℕ) (i v role : ℕ) → i < length freqs → i < length roles → role ≡ get_or roles i 0
-    → take i freqs ≡ map f (take i roles) → v ≡ f role → take (i + 1) (set freqs i v) ≡ map f (take (i + 1) roles)
-step_map f freqs roles i v role low low' is before here =
-    rw (add-one, take-suc-set freqs i v low, ← add-one) (rw (take_more roles i 0 low', map-append) (ap (λ (xs : List ℕ). xs ++ v ∷ []) before ∙ ap (λ (x : ℕ). map f (take i roles) ++ x ∷ []) (here ∙ ap f is)))
 
 -- ---- the frequencies of an instance of which one carrier changes its index
 

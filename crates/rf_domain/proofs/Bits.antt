@@ -35,10 +35,6 @@ pub between_shift : (base lo hi i : ℕ) → base ≤ hi → lo ≤ base + 63 �
     → between (max lo base - base) (min hi (base + 63) - base) i ≡ between lo hi (base + i)
 between_shift base lo hi i low high here = grind (arith, nat_tests)
 
-pub between_outside : (base lo hi i : ℕ) → ((hi < base) ⊎ (base + 63 < lo)) → i < 64 → between lo hi (base + i) ≡ false
-between_outside base lo hi i (inl below) here = grind (arith, nat_tests)
-between_outside base lo hi i (inr above) here = grind (arith, nat_tests)
-
 below_two : (a : ℕ) → a < 2 → (a ≡ 0) ⊎ (a ≡ 1)
 below_two zero h = inl refl
 below_two (suc zero) h = inr refl
@@ -370,14 +366,6 @@ zero_bit n k = ap (λ x. bit_at x (k % 64) == 1) (zero_word n (k / 64)) ∙ ap (
     zero_word zero i = refl
     zero_word (suc n) zero = refl
     zero_word (suc n) (suc i) = zero_word n i
-
-pub padded_empty : IsPadded 0 []
-padded_empty = record {
-  small = omega arith;
-  room = omega arith;
-  few = omega arith;
-  clear = λ k there. let none : has_bit [] k ≡ false = ap (λ x. x == 1) (bit_at-zero (k % 64)) in cc;
-}
 
 pub padded_full : (size : ℕ) (words : List ℕ) → size ≤ INDEX_LIMIT → length words ≡ (size + 63) / 64 → ((k : ℕ) → has_bit words k ≡ nat_lt k size) → IsPadded size words
 padded_full size words small len bits = record {

@@ -1,16 +1,15 @@
 -- The sets of all carriers: one set changed, all sets made, the indices counted.
-use Rattle.std.proofs.Common.{◌≡◌, ℕ, zero, suc, ◌+◌, ◌*◌, ◌<◌, ◌≤◌, List, [], ◌∷◌, ◌++◌, Bool, true, false, ◌&&◌, length, map, get_or, set, add-one, refl, sym, ◌∙◌, ap, subst, arith, inl, inr}
+use Rattle.std.proofs.Common.{◌≡◌, ℕ, zero, suc, ◌+◌, ◌*◌, ◌<◌, ◌≤◌, List, [], ◌∷◌, Bool, true, false, ◌&&◌, length, map, get_or, set, add-one, refl, sym, ◌∙◌, ap, subst, arith, inl, inr}
 use Rattle.std.specs.Prelude.{nat_lt, nat_le, ◌==◌}
 use Rattle.std.specs.List.{list_all}
 use Rattle.std.proofs.lemmas.Bool.{cases_lt, cases_eq, and_parts, leb-true}
 use Rattle.std.proofs.lemmas.Bool.Decides.{nat_tests}
-use Rattle.std.proofs.lemmas.List.{get_or-set_same, get_or-set_other, get_or_append_left, get_or_past, length-map, length-append}
+use Rattle.std.proofs.lemmas.List.{get_or-set_same, get_or-set_other, get_or_past, length-map}
 use Rattle.std.proofs.lemmas.Grind.{same_number_lists}
-use Rattle.std.proofs.Math.Seq.{get_or-append_seam}
 use Rattle.std.proofs.Math.Path.{fun_ext}
 use Rattle.rf_domain.specs.declared.limits.TheConstants.{INDEX_LIMIT}
 use Rattle.rf_domain.specs.Indices.{flag, count_below, IsWhole}
-use Rattle.rf_domain.specs.Sets.{size_of, sizes, has, full, total_below, AreFull}
+use Rattle.rf_domain.specs.Sets.{size_of, sizes, has, total_below, AreFull}
 use Rattle.rf_domain.proofs.Counting.{count_bound, count_mono, count_same, lt_cases}
 
 pub size_get : (sets : List (List Bool)) (c : ℕ) → size_of (sizes sets) c ≡ length (get_or sets c [])
@@ -64,20 +63,6 @@ pub record MadeUpTo (sets : List (List Bool)) (counts : List ℕ) (upto : ℕ) :
   pub len : length sets ≡ upto
   pub whole : (c : ℕ) → c < upto → IsWhole (get_or sets c []) (size_of counts c)
 
-pub made_more : (sets : List (List Bool)) (counts : List ℕ) (i : ℕ) (s : List Bool) → MadeUpTo sets counts i → IsWhole s (size_of counts i)
-    → MadeUpTo (sets ++ s ∷ []) counts (i + 1)
-made_more sets counts i s made whole = record {
-  len = omega (arith, made.len, length-append sets (s ∷ []));
-  whole = λ c below. elim (cases_lt c i) [
-    | inl earlier ↦ rw (get_or_append_left sets (s ∷ []) [] c (omega (arith, made.len))) (made.whole c earlier)
-    | inr last ↦
-        let at : c ≡ length sets = omega (arith, made.len) in
-        let here : i ≡ c = omega arith in
-        subst (λ (x : ℕ). IsWhole (get_or (sets ++ s ∷ []) x []) (size_of counts c)) (sym at)
-        (rw (get_or-append_seam sets s [] []) (subst (λ (x : ℕ). IsWhole s (size_of counts x)) here whole))
-  ];
-}
-
 pub made_all : (sets : List (List Bool)) (counts : List ℕ) → MadeUpTo sets counts (length counts) → AreFull sets counts
 made_all sets counts made = record {
   sized = same_number_lists (sizes sets) counts (length-map sets length ∙ made.len) (λ k below.
@@ -97,30 +82,6 @@ pub total_more : (sets : List (List Bool)) (i n : ℕ) → n ≡ count_below (fl
 total_more sets i n e =
     ap (λ x. total_below (sizes sets) (has sets) i + x) (e ∙ ap (count_below (flag (get_or sets i []))) (sym (size_get sets i)))
     ∙ ap (total_below (sizes sets) (has sets)) (sym (add-one i))
-
--- the sets of the first carriers are whole again
-pub record Refilled (before now : List (List Bool)) (upto : ℕ) : Type 0 where
-  pub sized : sizes now ≡ sizes before
-  pub whole : (c : ℕ) → c < upto → IsWhole (get_or now c []) (size_of (sizes before) c)
-
-pub refilled_more : (before now : List (List Bool)) (i : ℕ) (s : List Bool) → Refilled before now i → i < length now → IsWhole s (length (get_or now i []))
-    → Refilled before (set now i s) (i + 1)
-refilled_more before now i s filled known whole = record {
-  sized = sizes_set now i s whole.sized ∙ filled.sized;
-  whole = λ c below. elim (cases_eq c i) [
-    | inl same ↦
-        let size : length (get_or now i []) ≡ size_of (sizes before) c = sym (size_get now i) ∙ ap (λ ns. size_of ns i) filled.sized ∙ ap (size_of (sizes before)) (sym same) in
-        subst (IsWhole (get_or (set now i s) c [])) size
-        (subst (λ (x : List Bool). IsWhole x (length (get_or now i []))) (sym (ap (λ x. get_or (set now i s) x []) same ∙ get_or-set_same now i s [] known)) whole)
-    | inr other ↦ subst (λ (x : List Bool). IsWhole x (size_of (sizes before) c)) (sym (get_or-set_other now i c s [] other)) (filled.whole c (omega arith))
-  ];
-}
-
-pub refilled_all : (before now : List (List Bool)) (upto : ℕ) → Refilled before now upto → length now ≤ upto → has now ≡ full (sizes before)
-refilled_all before now upto filled all = (made_all now (sizes before) (record {
-  len = sym (length-map now length) ∙ ap length filled.sized;
-  whole = λ c below. filled.whole c (omega (arith, length-map now length, ap length filled.sized));
-})).all
 
 module _ (counts : List ℕ) (p q : ℕ → ℕ → Bool) (within : (c k : ℕ) → p c k ≡ true → q c k ≡ true) where
   pub total_mono : (n : ℕ) → total_below counts p n ≤ total_below counts q n

@@ -1,9 +1,9 @@
 -- Whether one set's indices are all in another.
-use Rattle.std.proofs.Common.{◌≡◌, ◌≢◌, ℕ, ◌+◌, ◌*◌, ◌/◌, ◌%◌, ◌^◌, ◌<◌, List, [], Bool, true, false, not, ◌&&◌, length, get_or, refl, sym, ◌∙◌, ap, arith, inl, inr, w64}
+use Rattle.std.proofs.Common.{◌≡◌, ◌≢◌, ℕ, ◌+◌, ◌*◌, ◌/◌, ◌%◌, ◌^◌, ◌<◌, List, [], Bool, true, false, not, ◌&&◌, length, get_or, refl, sym, ◌∙◌, ap, arith, w64}
 use Rattle.std.specs.Prelude.{◌==◌, ◌↔◌}
 use Rattle.std.specs.Int.{bit_at, trailing_zeros}
-use Rattle.std.proofs.lemmas.Bool.{cases_Bool, and_parts, true≢false}
-use Rattle.std.proofs.lemmas.Nat.Bits.{bit_at-trailing_zeros, bit_at-zero}
+use Rattle.std.proofs.lemmas.Bool.{and_parts, true≢false}
+use Rattle.std.proofs.lemmas.Nat.Bits.{bit_at-trailing_zeros}
 use Rattle.rf_domain.specs.Indices.{flag, has_bit, flags_of, IsPadded, HasBitsWithin, IsWithin}
 use Rattle.std.proofs.lemmas.List.{length-map}
 use Rattle.rf_domain.specs.Sets.{size_of, sizes, AreWithin}
@@ -28,19 +28,6 @@ word_apart words others i lacks fits some bits within =
     let here : has_bit words (64 * i + t) ≡ true = rw (word, place) both.0 in
     let there : (bit_at (get_or others i 0) t == 1) ≡ true = rw (word, place) at (within.each (64 * i + t) here) in
     absurd (true≢false (sym there ∙ not_true _ both.1))
-
--- a word has no bit that the other lacks
-pub word_within : (words others : List ℕ) (k lacks : ℕ) → lacks ≡ 0
-    → ((j : ℕ) → j < 64 → (bit_at lacks j == 1) ≡ ((bit_at (get_or words (k / 64) 0) j == 1) && not (bit_at (get_or others (k / 64) 0) j == 1)))
-    → has_bit words k ≡ true → has_bit others k ≡ true
-word_within words others k lacks none bits here = elim (cases_Bool (has_bit others k)) [
-  | inl there ↦ there
-  | inr absent ↦
-      let small : k % 64 < 64 = omega arith in
-      let lacked : (bit_at lacks (k % 64) == 1) ≡ true = bits (k % 64) small ∙ ap (λ b. b && not (has_bit others k)) here ∙ ap not absent in
-      let empty : (bit_at lacks (k % 64) == 1) ≡ false = ap (λ x. bit_at x (k % 64) == 1) none ∙ ap (λ x. x == 1) (bit_at-zero (k % 64)) in
-      absurd (true≢false (sym lacked ∙ empty))
-]
 
 -- sets of one size have as many words
 pub same_room : (size : ℕ) (words others : List ℕ) → IsPadded size words → IsPadded size others → length words ≡ length others

@@ -133,9 +133,6 @@ only_span (span ∷ next ∷ spans) x apart only =
     let hi_is = only.1 next.lo (or_right (between span.lo span.hi next.lo) (has_in (next ∷ spans) next.lo) (or_left (between next.lo next.hi next.lo) (has_in spans next.lo) (ends_in next apart.2.1).0)) in
     absurd (omega (arith, lo_is, hi_is, apart.1, apart.2.0))
 
-pub only_at : (x : ℕ) → IsOnly ((record { lo = x; hi = x }) ∷ []) x
-only_at x = (grind (arith, nat_tests), λ y here. grind (arith, nat_tests))
-
 pub empty_iff : (spans slice : List Span) (b : Bool) → AreApart spans → slice ≡ spans → b ≡ (length slice == 0)
     → (IsTrue b → IsEmptySet spans) × (IsEmptySet spans → IsTrue b)
 empty_iff [] slice b apart same is = (λ yes x. refl, λ none. is ∙ ap (λ (xs : List Span). length xs == 0) same)

@@ -1,5 +1,5 @@
 -- One condition, hint or role more is read.
-use Rattle.std.proofs.Common.{◌≡◌, ◌+◌, ◌<◌, ℕ, zero, suc, List, [], ◌∷◌, ◌++◌, true, false, refl, arith, sym, subst, length, Some, None, Result, Err}
+use Rattle.std.proofs.Common.{◌≡◌, ◌+◌, ◌<◌, ℕ, zero, suc, List, [], ◌∷◌, ◌++◌, false, refl, arith, sym, subst, length, Some, None, Result, Err}
 use Rattle.std.specs.Prelude.{codes, slice_set}
 use Rattle.std.specs.declared.option.Option.{Option}
 use Rattle.std.specs.Str.{bytes_eq}
@@ -13,23 +13,6 @@ use Rattle.rf_log.specs.Reading.{cond_by, conds_in, hint_by, hints_in, line_in, 
 use Rattle.rf_log.specs.LogText.{LogData, log_with}
 
 module _ (conds : List Cond) (names words : List (List ℕ)) where
-  pub conds-missing : (left : ℕ) → words ≡ [] → conds_in left conds names words ≡ None
-  conds-missing zero h = refl
-  conds-missing (suc left) h = rw h refl
-
-  pub conds-over : (left : ℕ) → left ≡ 0 → conds_in left conds names words ≡ None
-  conds-over left h = rw h refl
-
-  pub conds-end : (left : ℕ) (word : List ℕ) (rest : List (List ℕ)) → 0 < left → words ≡ word ∷ rest → bytes_eq word (codes ";") ≡ true
-      → conds_in left conds names words ≡ Some (conds, names, rest)
-  conds-end zero word rest some h e = absurd (omega arith)
-  conds-end (suc left) word rest some h e = rw (h, e) refl
-
-  pub conds-wrong : (left : ℕ) (word : List ℕ) (rest : List (List ℕ)) → words ≡ word ∷ rest → bytes_eq word (codes ";") ≡ false
-      → cond_by word names rest ≡ None → conds_in left conds names words ≡ None
-  conds-wrong zero word rest h e w = refl
-  conds-wrong (suc left) word rest h e w = rw (h, e, w) refl
-
   pub conds-more : (left next : ℕ) (word : List ℕ) (rest : List (List ℕ)) (cond : Cond) (more after : List (List ℕ))
       → left ≡ suc next → words ≡ word ∷ rest → bytes_eq word (codes ";") ≡ false → cond_by word names rest ≡ Some (cond, more, after)
       → conds_in left conds names words ≡ conds_in next (conds ++ cond ∷ []) more after
@@ -39,9 +22,6 @@ module _ (hints : List Hint) (names words : List (List ℕ)) where
   pub hints-end : (left : ℕ) → 0 < left → words ≡ [] → hints_in left hints names words ≡ Some (hints, names)
   hints-end zero some h = absurd (omega arith)
   hints-end (suc left) some h = rw h refl
-
-  pub hints-over : (left : ℕ) → left ≡ 0 → hints_in left hints names words ≡ None
-  hints-over left h = rw h refl
 
   pub hints-wrong : (left : ℕ) (word : List ℕ) (rest : List (List ℕ)) → words ≡ word ∷ rest → hint_by word names rest ≡ None → hints_in left hints names words ≡ None
   hints-wrong zero word rest h w = refl
@@ -53,13 +33,6 @@ module _ (hints : List Hint) (names words : List (List ℕ)) where
   hints-more left next word rest hint more after l h w = rw (l, h, w) refl
 
 module _ (roles : List ℕ) (names words : List (List ℕ)) (place : ℕ) where
-  pub roles-wrong : (left : ℕ) → 0 < left → taken name_of words ≡ None → roles_in left place roles names words ≡ None
-  roles-wrong zero some h = absurd (omega arith)
-  roles-wrong (suc left) some h = rw h refl
-
-  pub roles-over : (left : ℕ) → left ≡ 0 → roles_in left place roles names words ≡ Some (roles, names, words)
-  roles-over left h = rw h refl
-
   pub roles-more : (left next after : ℕ) (name : List ℕ) (rest : List (List ℕ)) → left ≡ suc next → after ≡ suc place → taken name_of words ≡ Some (name, rest)
       → roles_in left place roles names words ≡ roles_in next after (slice_set roles place (number_of_name names name)) (names_with names name) rest
   roles-more left next after name rest l a h = rw (l, a, h) refl

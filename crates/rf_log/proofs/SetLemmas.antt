@@ -15,9 +15,6 @@ and_true : (a b : Bool) → a ≡ true → b ≡ true → (a && b) ≡ true
 and_true true b h k = k
 and_true false b h k = h
 
-same_numbers : (x y z : ℕ) → (x == y) ≡ true → (x == z) ≡ false → (z == y) ≡ false
-same_numbers x y z h k = grind (arith, nat_tests, h, k)
-
 -- ---- distinct carriers are no more than those among which they are
 
 left_cond : (b : Bool) (y c d : ℕ) (ys rest : List ℕ) → (y == c) ≡ b → (y == d || is_among ys d) ≡ true → (d == c) ≡ false

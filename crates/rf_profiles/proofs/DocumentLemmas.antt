@@ -24,9 +24,6 @@ pub record Fits (all left : List Entry) (profiles : List Profile) : Type 0 where
   pub names : profile_names profiles ++ texts left ≡ texts all
   pub numbers : list_all (λ p. list_all is_width (widths p)) profiles ≡ true
 
-pub Fits-begin : (all : List Entry) → Fits all all []
-Fits-begin all = record { names = refl; numbers = refl }
-
 pub Fits-more : (all es rest : List Entry) (e : Entry) (profiles : List Profile) (p : Profile) → Fits all es profiles → es ≡ e ∷ rest
     → p.name ≡ string_bytes e.0 → list_all is_width (widths p) ≡ true → Fits all rest (profiles ++ p ∷ [])
 Fits-more all es rest e profiles p fits is name numbers = record {

@@ -9,10 +9,6 @@ use Rattle.csv.specs.Writing.{default_writer, fields_written, has_written, write
 use Rattle.csv.specs.declared.writer.Writer.{Writer}
 use Rattle.rf_report.specs.Csv.{Gains, Holds}
 
--- nothing is written
-pub gains_none : (writer : Writer (Vec ℕ Global)) → Gains writer writer []
-gains_none writer text h = rw append-nil h
-
 -- one piece, and then another
 pub gains_both : (old next new : Writer (Vec ℕ Global)) (piece more : List ℕ) → Gains old next piece → Gains next new more → Gains old new (piece ++ more)
 gains_both old next new piece more a b text h = rw (← append_assoc) (b (text ++ piece) (a text h))

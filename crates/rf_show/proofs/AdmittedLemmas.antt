@@ -82,9 +82,6 @@ or_true : (b : Bool) → (b || true) ≡ true
 or_true true = refl
 or_true false = refl
 
-or_right : (a b : Bool) → b ≡ true → (a || b) ≡ true
-or_right a b h = rw h (or_true a)
-
 or_not : (a b : Bool) → a ≡ false → (not a || b) ≡ true
 or_not a b h = rw h refl
 

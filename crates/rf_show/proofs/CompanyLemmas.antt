@@ -1,8 +1,7 @@
 -- Lemmas on carriers that may be together, and on masks of them.
-use Rattle.std.proofs.Common.{◌≡◌, ◌<◌, ◌+◌, ℕ, zero, suc, Bool, true, false, ◌&&◌, ◌||◌, List, [], ◌∷◌, length, refl, ap, ◌∙◌, arith, inl, inr}
-use Rattle.std.specs.Prelude.{Option, Some, None, ◌==◌, nat_le, nat_lt, slice_get, if◌then◌else◌}
+use Rattle.std.proofs.Common.{◌≡◌, ◌<◌, ℕ, zero, suc, Bool, true, false, ◌&&◌, List, [], ◌∷◌, length, refl, ap, ◌∙◌, arith}
+use Rattle.std.specs.Prelude.{Option, Some, None, nat_le, nat_lt, slice_get, if◌then◌else◌}
 use Rattle.std.specs.Option.{option_map_or}
-use Rattle.std.proofs.lemmas.Bool.{cases_lt}
 use Rattle.std.proofs.lemmas.Bool.Decides.{nat_tests}
 use Rattle.rf_zones.specs.Couplings.{joins}
 use Rattle.rf_zones.specs.Masks.{has_bit}
@@ -14,61 +13,8 @@ use Rattle.rf_show.specs.Company.{IsMutual}
 use Rattle.rf_show.specs.Query.{meet, meet_at}
 use Rattle.rf_show.specs.Show.{zone_number}
 
-or-false : (b : Bool) → (b || false) ≡ b
-or-false true = refl
-or-false false = refl
-
--- the numbers below i that pass, and one more
-pub passed-yes : (p : ℕ → Bool) (i k : ℕ) → p i ≡ true → ((nat_lt k i && p k) || (k == i)) ≡ (nat_lt k (i + 1) && p k)
-passed-yes p i k h =
-    elim (cases_lt k i) [
-      | inl low ↦
-          let a : nat_lt k i ≡ true = grind (arith, nat_tests) in
-          let b : nat_lt k (i + 1) ≡ true = grind (arith, nat_tests) in
-          let d : (k == i) ≡ false = grind (arith, nat_tests) in
-          rw (a, b, d) (or-false (p k))
-      | inr high ↦
-          elim (cases_lt i k) [
-            | inl above ↦
-                let a : nat_lt k i ≡ false = grind (arith, nat_tests) in
-                let b : nat_lt k (i + 1) ≡ false = grind (arith, nat_tests) in
-                let d : (k == i) ≡ false = grind (arith, nat_tests) in
-                rw (a, b, d) refl
-            | inr same ↦
-                let e : k ≡ i = omega (arith, high, same) in
-                let a : nat_lt i i ≡ false = grind (arith, nat_tests) in
-                let b : nat_lt i (i + 1) ≡ true = grind (arith, nat_tests) in
-                let d : (i == i) ≡ true = grind (arith, nat_tests) in
-                rw (e, a, b, d, h) refl
-          ]
-    ]
-
-pub passed-no : (p : ℕ → Bool) (i k : ℕ) → p i ≡ false → (nat_lt k i && p k) ≡ (nat_lt k (i + 1) && p k)
-passed-no p i k h =
-    elim (cases_lt k i) [
-      | inl low ↦
-          let a : nat_lt k i ≡ true = grind (arith, nat_tests) in
-          let b : nat_lt k (i + 1) ≡ true = grind (arith, nat_tests) in
-          rw (a, b) refl
-      | inr high ↦
-          elim (cases_lt i k) [
-            | inl above ↦
-                let a : nat_lt k i ≡ false = grind (arith, nat_tests) in
-                let b : nat_lt k (i + 1) ≡ false = grind (arith, nat_tests) in
-                rw (a, b) refl
-            | inr same ↦
-                let e : k ≡ i = omega (arith, high, same) in
-                let a : nat_lt i i ≡ false = grind (arith, nat_tests) in
-                let b : nat_lt i (i + 1) ≡ true = grind (arith, nat_tests) in
-                rw (e, a, b, h) refl
-          ]
-    ]
-
 pub none-passed : (mask : ℕ) (p : ℕ → Bool) (k : ℕ) → has_bit mask k ≡ false → has_bit mask k ≡ (nat_lt k 0 && p k)
 none-passed mask p k h = let e : nat_lt k 0 ≡ false = grind (arith, nat_tests) in rw e h
-
-pub all-passed : (p : ℕ → Bool) (n k : ℕ) → k < n → (nat_lt k n && p k) ≡ p k
-all-passed p n k h = let a : nat_lt k n ≡ true = grind (arith, nat_tests) in rw a refl
 
 -- ---- in either order
 

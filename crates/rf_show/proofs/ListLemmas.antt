@@ -1,4 +1,4 @@
-use Rattle.std.proofs.Common.{◌≡◌, ℕ, zero, suc, ◌+◌, ◌<◌, ◌≤◌, Bool, true, false, not, ◌&&◌, ◌||◌, cond, Some, IsSome, List, [], ◌∷◌, length, get_or, set, insert, remove, find, position, refl, ap, sym, ◌∙◌, arith}
+use Rattle.std.proofs.Common.{◌≡◌, ℕ, zero, suc, ◌+◌, ◌<◌, ◌≤◌, Bool, true, false, not, ◌&&◌, ◌||◌, cond, Some, IsSome, List, [], ◌∷◌, length, get_or, set, insert, remove, find, position, refl, ap, sym, arith}
 use Rattle.std.specs.List.{position_or_len, list_all}
 use Rattle.std.proofs.lemmas.Bool.{lt-ltb}
 use Rattle.rf_show.specs.After.{change_first, remove_first}
@@ -57,21 +57,11 @@ found_position p xs h = rw (lt-ltb _ _ (found_place p xs h)) refl
 
 -- ---- what holds of each element
 
-pub list_all-set : {X : Type 0} (q : X → Bool) (xs : List X) (i : ℕ) (y : X) → list_all q xs ≡ true → q y ≡ true → list_all q (set xs i y) ≡ true
-list_all-set q [] i y h e = refl
-list_all-set q (x ∷ xs) zero y h e = and_true _ _ e (both_true _ _ h).1
-list_all-set q (x ∷ xs) (suc i) y h e = and_true _ _ (both_true _ _ h).0 (list_all-set q xs i y (both_true _ _ h).1 e)
-
 pub list_all-remove : {X : Type 0} (q : X → Bool) (xs : List X) (i : ℕ) → list_all q xs ≡ true → list_all q (remove xs i) ≡ true
 list_all-remove q [] zero h = refl
 list_all-remove q [] (suc i) h = refl
 list_all-remove q (x ∷ xs) zero h = (both_true _ _ h).1
 list_all-remove q (x ∷ xs) (suc i) h = and_true _ _ (both_true _ _ h).0 (list_all-remove q xs i (both_true _ _ h).1)
-
-pub list_all_get : {X : Type 0} (q : X → Bool) (xs : List X) (i : ℕ) (c : X) → list_all q xs ≡ true → i < length xs → c ≡ get_or xs i c → q c ≡ true
-list_all_get q [] i c h l e = absurd (omega arith)
-list_all_get q (x ∷ xs) zero c h l e = ap q e ∙ (both_true _ _ h).0
-list_all_get q (x ∷ xs) (suc i) c h l e = list_all_get q xs i c (both_true _ _ h).1 (omega arith) e
 
 pub list_all-wider : {X : Type 0} (q r : X → Bool) (xs : List X) → ((x : X) → q x ≡ true → r x ≡ true) → list_all q xs ≡ true → list_all r xs ≡ true
 list_all-wider q r [] w h = refl

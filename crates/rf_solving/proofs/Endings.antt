@@ -1,9 +1,7 @@
 -- A search that has ended.
-use Rattle.std.proofs.Common.{◌≡◌, ◌++◌, ℕ, List, refl, ap, subst}
-use Rattle.rf_log.specs.Case.{IsPlan}
-use Rattle.rf_log.specs.Solved.{Ending, Ends, planned}
+use Rattle.std.proofs.Common.{◌≡◌, ◌++◌, ℕ, List, refl, ap}
+use Rattle.rf_log.specs.Solved.{Ending}
 use Rattle.rf_log.specs.declared.line.LogLine.{LogLine}
-use Rattle.rf_show.specs.Case.{case_of}
 use Rattle.rf_show.specs.Show.{ShowData}
 use Rattle.rf_solving.specs.Solving.{IsEnded, IsSolvedBy, log_text, verdict_text}
 
@@ -13,8 +11,3 @@ ended_by show n ending log verdict by is = record {
   begun = record { log = log; started = by.solved.started; is = refl };
   whole = record { log = log; solved = by.solved; written = by.written; is = ap (λ text. log_text show log ++ text) is };
 }
-
--- the plan of an ending is a plan
-pub plan_by : (show : ShowData) (n : ℕ) (ending : Ending) (log : List LogLine) → IsSolvedBy show n ending log →
-    (plan : List ℕ) → ending ≡ planned plan → IsPlan (case_of show) plan
-plan_by show n ending log by plan is = subst (λ (e : Ending). Ends (case_of show) n log e) is by.solved.ends

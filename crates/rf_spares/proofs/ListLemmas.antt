@@ -1,6 +1,6 @@
 -- Lemmas on lists, and on whether one of many lists passes a test.
 use Rattle.std.proofs.Common.{◌≡◌, ◌<◌, ◌≤◌, ◌+◌, ℕ, zero, suc, Bool, true, false, ◌||◌, ◌&&◌, ◌==◌, List, [], ◌∷◌, ◌++◌, length, map, refl, ap, sym, ◌∙◌, arith, inl, inr}
-use Rattle.std.specs.Prelude.{All, not, nat_lt, insert}
+use Rattle.std.specs.Prelude.{not, nat_lt, insert}
 use Rattle.std.specs.List.{flat_map, list_all, list_any}
 use Rattle.std.proofs.lemmas.Bool.{cases_Bool, cases_lt, true≢false}
 use Rattle.std.proofs.lemmas.Bool.Decides.{nat_tests}
@@ -247,7 +247,3 @@ map-below p q n [] h low = refl
 map-below p q n (x ∷ t) h low =
     let both = and-parts (nat_lt x n) (are_below n t) low in
     rw (h x (lt-out x n both.0), map-below p q n t h both.1) refl
-
-pub to-below : (n : ℕ) (t : List ℕ) → All (λ c. c < n) t → are_below n t ≡ true
-to-below n [] h = refl
-to-below n (x ∷ t) h = and-both (nat_lt x n) (are_below n t) (lt-yes x n (h 0 x (omega arith))) (to-below n t (λ k d low. h (suc k) d (omega (arith, low))))
