@@ -1,5 +1,6 @@
 -- The problem of a show has the case of the show.
-use Rattle.std.proofs.Common.{◌≡◌, ℕ, zero, suc, ◌+◌, ◌<◌, ◌≤◌, Bool, true, false, ◌&&◌, ◌||◌, List, [], ◌∷◌, ◌++◌, length, map, filter, cond, get_or, length-append, refl, ap, sym, ◌∙◌, arith, inl, inr}
+use Rattle.std.proofs.Common.{◌≡◌, ℕ, zero, suc, ◌+◌, ◌<◌, ◌≤◌, Bool, true, false, ◌&&◌, ◌||◌, List, [], ◌∷◌, ◌++◌, length, map, filter, cond, get_or, length-append, refl, ap, sym, ◌∙◌, arith, inl}
+use Rattle.std.proofs.Common.{inr}
 use Rattle.std.specs.Prelude.{◌==◌, nat_le, nat_lt, Result, Ok, Err, OnOk}
 use Rattle.std.specs.List.{list_all, list_any, range_with_len}
 use Rattle.std.proofs.lemmas.Bool.{and_parts, cases_Bool, cases_lt, lt-ltb, ltb-true}
@@ -66,13 +67,15 @@ added_more show c old new has add =
       counted = ap length list ∙ length-append old.carriers (carrier ∷ []) ∙ ap (λ n. n + 1) has.counted;
       each = λ k low. elim (cases_lt k c) [
         | inl below ↦
-            let here : get_or new.carriers k no_data ≡ get_or old.carriers k no_data = ap (λ l. get_or l k no_data) list ∙ get_or_append_left old.carriers (carrier ∷ []) no_data k (omega (arith, below, has.counted)) in
+            let here : get_or new.carriers k no_data ≡ get_or old.carriers k no_data =
+            ap (λ l. get_or l k no_data) list ∙ get_or_append_left old.carriers (carrier ∷ []) no_data k (omega (arith, below, has.counted)) in
             let earlier = get_or old.carriers k no_data in
             is_of show k earlier.heard earlier.reach (get_or new.carriers k no_data) (here ∙ (has.each k below).same)
             (λ size b low'. sym (ap (λ (x : CarrierData). has_bit (mask_of size x) b) (has.each k below).same) ∙ (has.each k below).meets size b low')
         | inr above ↦
             let same : k ≡ c = omega (arith, above, low) in
-            let here : get_or new.carriers k no_data ≡ carrier = ap (λ l. get_or l k no_data) list ∙ ap (λ i. get_or (old.carriers ++ carrier ∷ []) i no_data) (same ∙ sym has.counted) ∙ get_or-append_seam old.carriers carrier [] no_data in
+            let here : get_or new.carriers k no_data ≡ carrier =
+            ap (λ l. get_or l k no_data) list ∙ ap (λ i. get_or (old.carriers ++ carrier ∷ []) i no_data) (same ∙ sym has.counted) ∙ get_or-append_seam old.carriers carrier [] no_data in
             is_of show k add.heard add.reach (get_or new.carriers k no_data) (here ∙ ap (λ n. carrier_with show n add.heard add.reach) (sym same))
             (λ size b low'. add.meets size b low' ∙ ap (λ n. meet_at size show.zones show.carriers n b) (sym same))
       ];

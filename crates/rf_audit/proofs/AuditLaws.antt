@@ -37,7 +37,8 @@ honest-found : (case : Case) (lines : List LogLine) (tree : Tree) (rest : List L
     → found ≡ Honest (count_by is_branch (lines ++ rest))
 honest-found case lines tree [] found valid honest finds = finds ∙ ap (λ (xs : List LogLine). Honest (count_by is_branch xs)) (sym (append-nil lines))
 honest-found case lines tree (line ∷ rest) found valid honest finds =
-    let P : Option Cause → Type 0 = λ o. is_refused (walk_by case lines tree line rest o) ≡ false → FindsBy case lines tree line rest found o → found ≡ Honest (count_by is_branch (lines ++ (line ∷ rest))) in
+    let P : Option Cause → Type 0 =
+    λ o. is_refused (walk_by case lines tree line rest o) ≡ false → FindsBy case lines tree line rest found o → found ≡ Honest (count_by is_branch (lines ++ (line ∷ rest))) in
     let all : (o : Option Cause) → P o = λ o. elim o as P [
       | Some reason ↦ λ v f. absurd (refused_not (length lines + 1) reason v)
       | None ↦ λ v f. elim f [

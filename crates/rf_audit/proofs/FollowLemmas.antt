@@ -75,7 +75,8 @@ finds-on case lines tree line rest found e honest on =
 pub rest-at : (lines : List LogLine) (i : ℕ) (d : LogLine) → i < length lines → drop i lines ≡ get_or lines i d ∷ drop (i + 1) lines
 rest-at lines i d low = let e : suc i ≡ i + 1 = omega arith in drop-cons lines i d low ∙ ap (λ (n : ℕ). get_or lines i d ∷ drop n lines) e
 
-module _ (case : Case) (lines : List LogLine) (i : ℕ) (line : LogLine) (tree : Tree) (v : Verdict) (low : i < length lines) (is : line ≡ get_or lines i line) (walked : walk case (take i lines) tree (drop i lines) ≡ v) where
+module _ (case : Case) (lines : List LogLine) (i : ℕ) (line : LogLine) (tree : Tree) (v : Verdict) (low : i < length lines)
+    (is : line ≡ get_or lines i line) (walked : walk case (take i lines) tree (drop i lines) ≡ v) where
   long : length (take i lines) ≡ i
   long = length-take' lines i low
 

@@ -57,7 +57,8 @@ led-window case kind place chosen leaders freqs multiple rest margin g c window 
 -- the same, as the code has the numbers
 pub led-told : (case : Case) (kind : Kind) (place : ℕ) (chosen leaders freqs : List ℕ) (multiple rest : ℤ) (margin : ℕ) (g c n : ℕ) (window : ℕ × ℕ) → place < length chosen
     → IsLed case leaders c → slice_index leaders c ≡ g → freqs ≡ (carrier_of case g).freqs → multiple ≡ slice_index_or (coefficients_of kind) place (pos 0) → unsigned_abs multiple ≤ 8
-    → n ≡ roles_of kind → margin ≡ margin_of case kind (take n (set chosen place g)) → IsWindow freqs (to_z w64 (of_z w64 multiple)) rest margin window → IsTargetWindow case kind place chosen rest c window
+    → n ≡ roles_of kind → margin ≡ margin_of case kind (take n (set chosen place g))
+    → IsWindow freqs (to_z w64 (of_z w64 multiple)) rest margin window → IsTargetWindow case kind place chosen rest c window
 led-told case kind place chosen leaders freqs multiple rest margin g c n window low led is freqs_are multiple_is few count margin_is in_window =
     led-window case kind place chosen leaders freqs (to_z w64 (of_z w64 multiple)) rest margin g c window low led is freqs_are (told multiple (omega (arith, few)) ∙ multiple_is)
     (margin_is ∙ ap (λ (m : ℕ). margin_of case kind (take m (set chosen place g))) count) in_window

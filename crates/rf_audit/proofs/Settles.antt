@@ -116,7 +116,8 @@ settles case path fixed sets left two c k here struck =
     let place = struck.target.0 in
     let low : place < length roles = struck.target.1 in
     let c_is : slice_index roles place ≡ c = sym (get-default roles place c low) ∙ struck.target.2 in
-    let sole : (i : ℕ) → i < length roles → (i ≡ place → ⊥) → (slice_index roles i ≡ c → ⊥) = λ i low_i other. λ is. differ roles i place (instance_distinct case struck.kind roles struck.is_instance) low_i low other (is ∙ sym c_is) in
+    let sole : (i : ℕ) → i < length roles → (i ≡ place → ⊥) → (slice_index roles i ≡ c → ⊥) =
+    λ i low_i other. λ is. differ roles i place (instance_distinct case struck.kind roles struck.is_instance) low_i low other (is ∙ sym c_is) in
     let contains : (i : ℕ) → i < length roles → Contains roles (slice_index roles i) = λ i low_i. (i, low_i, get-default roles i (slice_index roles i) low_i) in
     let is_fixed : (i : ℕ) → i < length roles → (i ≡ place → ⊥) → (at : ℕ) × (fixed_at fixed (slice_index roles i) ≡ Some at) = λ i low_i other.
     some-fixed (slice_index roles i) (fixed_at fixed (slice_index roles i)) refl (known_role case struck.kind roles (slice_index roles i) struck.is_instance (contains i low_i))

@@ -45,7 +45,8 @@ pub narrow-fewer : (old : List (List Bool)) (cond : Cond) (marks : List Bool) �
     → (c k : ℕ) → in_sets (set old cond.carrier marks) c k ≡ true → (in_sets old c k ≡ true) × (c ≡ cond.carrier → is_met cond k ≡ true)
 narrow-fewer old cond marks low cut c k here = elim (cases_eq c cond.carrier) [
   | inl same ↦
-      let here_c : has marks k ≡ true = ap (λ (m : List Bool). has m k) (sym (get_or-set_same old cond.carrier marks [] low)) ∙ subst (λ (x : ℕ). in_sets (set old cond.carrier marks) x k ≡ true) same here in
+      let here_c : has marks k ≡ true =
+      ap (λ (m : List Bool). has m k) (sym (get_or-set_same old cond.carrier marks [] low)) ∙ subst (λ (x : ℕ). in_sets (set old cond.carrier marks) x k ≡ true) same here in
       let parts = and_parts _ (is_met cond k) (sym (cut k) ∙ here_c) in
       (subst (λ (x : ℕ). in_sets old x k ≡ true) (sym same) parts.0, λ _. parts.1)
   | inr other ↦ (ap (λ (m : List Bool). has m k) (sym (get_or-set_other old cond.carrier c marks [] other)) ∙ here, λ same. absurd (other same))

@@ -15,9 +15,11 @@ use Rattle.rf_audit.proofs.Struck.{cleared-still, at-still}
 
 module _ (case : Case) (fixed : List (Option ℕ)) (old now new : List (List Bool)) (so_far : Falls case fixed old now) (step : Falls case fixed now new) where
   pub at-more : (kind : Kind) (place x n : ℕ)
-      → ((roles : List ℕ) (at : ℕ) → length roles ≡ roles_of kind → at < n → (at ≡ place → ⊥) → AreFixed fixed roles place → slice_index roles at ≡ x → IsCleared case fixed (in_sets now) kind roles place)
+      → ((roles : List ℕ) (at : ℕ) → length roles ≡ roles_of kind → at < n → (at ≡ place → ⊥)
+      → AreFixed fixed roles place → slice_index roles at ≡ x → IsCleared case fixed (in_sets now) kind roles place)
       → ((n ≡ place → ⊥) → (chosen : List ℕ) → IsClearedAlong case fixed new kind place n x 0 chosen)
-      → (roles : List ℕ) (at : ℕ) → length roles ≡ roles_of kind → at < n + 1 → (at ≡ place → ⊥) → AreFixed fixed roles place → slice_index roles at ≡ x → IsCleared case fixed (in_sets new) kind roles place
+      → (roles : List ℕ) (at : ℕ) → length roles ≡ roles_of kind → at < n + 1 → (at ≡ place → ⊥)
+      → AreFixed fixed roles place → slice_index roles at ≡ x → IsCleared case fixed (in_sets new) kind roles place
   at-more kind place x n before here roles at full low other fix is = elim (cases_lt at n) [
     | inl below ↦ cleared-still case fixed now new kind roles place step (before roles at full below other fix is)
     | inr above ↦
@@ -41,9 +43,12 @@ module _ (case : Case) (fixed : List (Option ℕ)) (old now new : List (List Boo
   ]
 
   pub carrier-more : (kind : Kind) (place at x depth n : ℕ) (chosen : List ℕ)
-      → ((roles : List ℕ) → length roles ≡ roles_of kind → IsAlong depth place chosen roles → AreFixed fixed roles place → slice_index roles at ≡ x → slice_index roles depth < n → IsCleared case fixed (in_sets now) kind roles place)
-      → ((roles : List ℕ) → length roles ≡ roles_of kind → IsAlong depth place chosen roles → AreFixed fixed roles place → slice_index roles at ≡ x → slice_index roles depth ≡ n → IsCleared case fixed (in_sets new) kind roles place)
-      → (roles : List ℕ) → length roles ≡ roles_of kind → IsAlong depth place chosen roles → AreFixed fixed roles place → slice_index roles at ≡ x → slice_index roles depth < n + 1 → IsCleared case fixed (in_sets new) kind roles place
+      → ((roles : List ℕ) → length roles ≡ roles_of kind → IsAlong depth place chosen roles → AreFixed fixed roles place
+      → slice_index roles at ≡ x → slice_index roles depth < n → IsCleared case fixed (in_sets now) kind roles place)
+      → ((roles : List ℕ) → length roles ≡ roles_of kind → IsAlong depth place chosen roles → AreFixed fixed roles place
+      → slice_index roles at ≡ x → slice_index roles depth ≡ n → IsCleared case fixed (in_sets new) kind roles place)
+      → (roles : List ℕ) → length roles ≡ roles_of kind → IsAlong depth place chosen roles → AreFixed fixed roles place
+      → slice_index roles at ≡ x → slice_index roles depth < n + 1 → IsCleared case fixed (in_sets new) kind roles place
   carrier-more kind place at x depth n chosen before here roles full along fix is low = elim (cases_lt (slice_index roles depth) n) [
     | inl below ↦ cleared-still case fixed now new kind roles place step (before roles full along fix is below)
     | inr above ↦ here roles full along fix is (omega arith)
@@ -81,7 +86,8 @@ margin-none case T7Two roles none = none 2 (omega arith)
 pub idle-cleared : (case : Case) (fixed : List (Option ℕ)) (sets : List (List Bool)) (x : ℕ) (kind : Kind) (place : ℕ)
     → ((c : ℕ) → c < length case.carriers → asked_by case kind c ≡ 0) → IsClearedWith case fixed sets x kind place
 idle-cleared case fixed sets x kind place none roles at full low other fix is made k here =
-    let zero_margin : margin_of case kind roles ≡ 0 = margin-none case kind roles (λ i low_i. none (slice_index roles i) (known_in (length case.carriers) roles i 0 (known_roles case kind roles made) (omega (arith, full, low_i)))) in
+    let zero_margin : margin_of case kind roles ≡ 0 =
+    margin-none case kind roles (λ i low_i. none (slice_index roles i) (known_in (length case.carriers) roles i 0 (known_roles case kind roles made) (omega (arith, full, low_i)))) in
     let freqs = freqs_at case roles (with_target fixed (slice_index roles place) k) in
     ap (λ (m : ℕ). is_broken kind freqs m) zero_margin ∙ nothing-below (unsigned_abs (value_of kind freqs))
   where
@@ -90,7 +96,8 @@ idle-cleared case fixed sets x kind place none roles at full low other fix is ma
 
 -- ---- one role more
 
-pub along-more : (depth place : ℕ) (chosen roles : List ℕ) (c : ℕ) → depth < length chosen → IsAlong depth place chosen roles → slice_index roles depth ≡ c → IsAlong (depth + 1) place (set chosen depth c) roles
+pub along-more : (depth place : ℕ) (chosen roles : List ℕ) (c : ℕ) → depth < length chosen
+    → IsAlong depth place chosen roles → slice_index roles depth ≡ c → IsAlong (depth + 1) place (set chosen depth c) roles
 along-more depth place chosen roles c low along is i low_i other = elim (cases_lt i depth) [
   | inl below ↦ along i below other ∙ sym (get_or-set_other chosen depth i c 0 (λ same. omega (arith, below, same)))
   | inr above ↦
@@ -99,7 +106,8 @@ along-more depth place chosen roles c low along is i low_i other = elim (cases_l
 ]
 
 pub chosen-more : (case : Case) (fixed : List (Option ℕ)) (depth place : ℕ) (chosen freqs : List ℕ) (c k f : ℕ) → (depth ≡ place → ⊥) → depth < length chosen → depth < length freqs
-    → c < length case.carriers → fixed_at fixed c ≡ Some k → f ≡ freq_of case c k → AreChosen case fixed depth place chosen freqs → AreChosen case fixed (depth + 1) place (set chosen depth c) (set freqs depth f)
+    → c < length case.carriers → fixed_at fixed c ≡ Some k → f ≡ freq_of case c k → AreChosen case fixed depth place chosen freqs
+    → AreChosen case fixed (depth + 1) place (set chosen depth c) (set freqs depth f)
 chosen-more case fixed depth place chosen freqs c k f apart low low_f known is freq chose = record {
   known = λ i low_i other. elim (cases_lt i depth) [
     | inl below ↦ subst (λ (x : ℕ). x < length case.carriers) (sym (kept i below)) (chose.known i below other)
@@ -107,10 +115,12 @@ chosen-more case fixed depth place chosen freqs c k f apart low low_f known is f
   ];
   are_fixed = λ i low_i other. elim (cases_lt i depth) [
     | inl below ↦ ap (λ (x : ℕ). is_some (fixed_at fixed x)) (kept i below) ∙ chose.are_fixed i below other
-    | inr above ↦ let e : depth ≡ i = omega arith in subst (λ (j : ℕ). is_some (fixed_at fixed (slice_index (set chosen depth c) j)) ≡ true) e (ap (λ (x : ℕ). is_some (fixed_at fixed x)) here ∙ ap is_some is)
+    | inr above ↦ let e : depth ≡ i = omega arith in
+        subst (λ (j : ℕ). is_some (fixed_at fixed (slice_index (set chosen depth c) j)) ≡ true) e (ap (λ (x : ℕ). is_some (fixed_at fixed x)) here ∙ ap is_some is)
   ];
   theirs = λ i low_i other. elim (cases_lt i depth) [
-    | inl below ↦ get_or-set_other freqs depth i f 0 (λ same. omega (arith, below, same)) ∙ chose.theirs i below other ∙ sym (ap (λ (x : ℕ). freq_of case x (unwrap_or (fixed_at fixed x) 0)) (kept i below))
+    | inl below ↦ get_or-set_other freqs depth i f 0 (λ same. omega (arith, below, same)) ∙ chose.theirs i below other
+        ∙ sym (ap (λ (x : ℕ). freq_of case x (unwrap_or (fixed_at fixed x) 0)) (kept i below))
     | inr above ↦ let e : depth ≡ i = omega arith in
         subst (λ (j : ℕ). slice_index (set freqs depth f) j ≡ freq_of case (slice_index (set chosen depth c) j) (unwrap_or (fixed_at fixed (slice_index (set chosen depth c) j)) 0)) e
         (get_or-set_same freqs depth f 0 low_f ∙ freq ∙ ap (λ (o : Option ℕ). freq_of case c (unwrap_or o 0)) (sym is) ∙ sym (ap (λ (x : ℕ). freq_of case x (unwrap_or (fixed_at fixed x) 0)) here))

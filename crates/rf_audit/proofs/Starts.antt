@@ -70,7 +70,8 @@ allowed-more case sets marks n full here before c k low known = elim (cases_lt c
   | inl below ↦ ap (λ (m : List Bool). has m k) (get_or-append sets (marks ∷ []) [] c (omega (arith, full, below))) ∙ before c k below known
   | inr above ↦
       let is : n ≡ c = omega arith in
-      subst (λ (x : ℕ). k < count_of case x → in_sets (sets ++ marks ∷ []) x k ≡ is_allowed case x k) is (λ known_n. ap (λ (m : List Bool). has m k) (get_or_push sets marks [] n full) ∙ here k known_n) known
+      subst (λ (x : ℕ). k < count_of case x
+      → in_sets (sets ++ marks ∷ []) x k ≡ is_allowed case x k) is (λ known_n. ap (λ (m : List Bool). has m k) (get_or_push sets marks [] n full) ∙ here k known_n) known
 ]
 
 none-past : (case : Case) (c : ℕ) → length case.carriers ≤ c → count_of case c ≡ 0

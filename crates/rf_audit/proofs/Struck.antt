@@ -1,10 +1,12 @@
 -- What an instance whose other carriers are fixed takes out of its target's set.
-use Rattle.std.proofs.Common.{◌≡◌, ◌∙◌, ◌<◌, ◌≤◌, ◌==◌, ℕ, zero, suc, ℤ, pos, ◌+ℤ◌, ◌*ℤ◌, unsigned_abs, List, [], ◌∷◌, length, map, get_or, set, take, Bool, true, false, not, ◌&&◌, refl, sym, ap, subst, arith, inl, inr, ◌⊎◌}
+use Rattle.std.proofs.Common.{◌≡◌, ◌∙◌, ◌<◌, ◌≤◌, ◌==◌, ℕ, zero, suc, ℤ, pos, ◌+ℤ◌, ◌*ℤ◌, unsigned_abs, List, [], ◌∷◌, length, map, get_or, set, take, Bool, true, false, not, ◌&&◌, refl, sym, ap}
+use Rattle.std.proofs.Common.{subst, arith, inl, inr, ◌⊎◌}
 use Rattle.std.specs.Prelude.{Option, Some, None, is_some, nat_lt, nat_le, slice_index, Contains, if◌then◌else◌}
 use Rattle.std.specs.Option.{unwrap_or}
 use Rattle.std.proofs.lemmas.Int.{ints}
 use Rattle.std.proofs.Math.IntN.{*ℤ-zero}
-use Rattle.std.proofs.lemmas.Bool.{cases_Bool, cases_eq, cases_lt, and_parts, and_from, eq-eqb, eqb-true, lt-ltb, ltb-true, leb-true, le-leb, true≢false, not-true, or_left, or_right, false_from_ne_true}
+use Rattle.std.proofs.lemmas.Bool.{cases_Bool, cases_eq, cases_lt, and_parts, and_from, eq-eqb, eqb-true, lt-ltb, ltb-true, leb-true, le-leb, true≢false, not-true, or_left, or_right}
+use Rattle.std.proofs.lemmas.Bool.{false_from_ne_true}
 use Rattle.std.proofs.lemmas.List.{ext_get_or, get_or-map, get_or-set_same, get_or-set_other, length-set, length-map, get_or_past}
 use Rattle.rf_terms.specs.declared.kind.Kind.{Kind}
 use Rattle.rf_terms.specs.Kinds.{kinds, roles_of, coefficients_of}
@@ -115,7 +117,8 @@ module _ (case : Case) (fixed : List (Option ℕ)) (kind : Kind) (place : ℕ) (
         ∙ sym (get_or-set_same freqs place (freq_of case c k) 0 (let e = t.freqs_full in let l = t.low in omega (arith, e, l))))
     | inr other ↦
         let r = get_or roles i 0 in
-        let apart_c : r ≡ c → ⊥ = λ is. differ roles i place (instance_distinct case kind roles t.made) (let e = t.full in omega (arith, e, low)) (let e = t.full in let l = t.low in omega (arith, e, l)) other (is ∙ sym t.here) in
+        let apart_c : r ≡ c → ⊥ = λ is. differ roles i place (instance_distinct case kind roles t.made) (let e = t.full in
+        omega (arith, e, low)) (let e = t.full in let l = t.low in omega (arith, e, l)) other (is ∙ sym t.here) in
         let theirs = t.chose.theirs i low other in
         let same : r ≡ slice_index chosen i = t.along i low other in
         get_or-map (at_role k) roles i 0 0 (let e = t.full in omega (arith, e, low))
@@ -151,7 +154,8 @@ module _ (case : Case) (fixed : List (Option ℕ)) (kind : Kind) (place : ℕ) (
       false_from_ne_true _ (λ broken.
       let back = sym (ap (λ (z : ℤ). nat_lt (unsigned_abs z) (margin_of case kind roles)) (value-is k)
       ∙ ap (λ (m : ℕ). nat_lt (unsigned_abs (value_of kind freqs +ℤ (get_or (coefficients_of kind) place (pos 0) *ℤ pos (freq_of case c k)))) m) (ap (margin_of case kind) (roles-are four few))
-      ∙ ap (λ (z : ℤ). nat_lt (unsigned_abs (z +ℤ (get_or (coefficients_of kind) place (pos 0) *ℤ pos (freq_of case c k)))) (margin_of case kind (take (roles_of kind) (set chosen place c)))) (sym is)) ∙ broken in
+      ∙ ap (λ (z : ℤ). nat_lt (unsigned_abs (z +ℤ (get_or (coefficients_of kind) place (pos 0) *ℤ pos (freq_of case c k)))) (margin_of case kind (take (roles_of kind) (set chosen place c)))) (sym is))
+      ∙ broken in
       let both = (in_window k known).0 (ltb-true _ _ back) in
       out both.0 both.1)
 
@@ -166,7 +170,8 @@ module _ (case : Case) (fixed : List (Option ℕ)) (kind : Kind) (place : ℕ) (
     here = at-target fixed c k;
     others = λ r has_r other j here_j.
         let i = has_r.0 in
-        let not_place : i ≡ place → ⊥ = λ same. other (sym has_r.2 ∙ ap (λ (n : ℕ). get_or roles n r) same ∙ get-default roles place r (let e = t.full in let l = t.low in omega (arith, e, l)) ∙ t.here) in
+        let not_place : i ≡ place → ⊥ =
+        λ same. other (sym has_r.2 ∙ ap (λ (n : ℕ). get_or roles n r) same ∙ get-default roles place r (let e = t.full in let l = t.low in omega (arith, e, l)) ∙ t.here) in
         let r_is : get_or roles i 0 ≡ r = sym (get-default roles i r has_r.1) ∙ has_r.2 in
         let some : is_some (fixed_at fixed r) ≡ true = subst (λ (x : ℕ). is_some (fixed_at fixed x) ≡ true) r_is (t.fix i has_r.1 not_place) in
         held-at r j (fixed_at fixed r) refl some here_j other;
@@ -296,7 +301,8 @@ pub tuple-of : (case : Case) (fixed : List (Option ℕ)) (kind : Kind) (place : 
 tuple-of case fixed kind place chosen freqs c chose four few freqs_full low made =
     let n = roles_of kind in
     let long : length (set chosen place c) ≡ 4 = length-set chosen place c ∙ four in
-    let at : (i : ℕ) → i < n → (i ≡ place → ⊥) → get_or (take n (set chosen place c)) i 0 ≡ get_or chosen i 0 = λ i low_i other. take-at (set chosen place c) n i low_i ∙ get_or-set_other chosen place i c 0 other in
+    let at : (i : ℕ) → i < n → (i ≡ place → ⊥) → get_or (take n (set chosen place c)) i 0 ≡ get_or chosen i 0 =
+    λ i low_i other. take-at (set chosen place c) n i low_i ∙ get_or-set_other chosen place i c 0 other in
     let full : length (take n (set chosen place c)) ≡ n = take-length (set chosen place c) n (omega (arith, long, few)) in
     record {
       made = made;

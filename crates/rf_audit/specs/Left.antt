@@ -1,5 +1,6 @@
 -- What a path leaves to the carriers, on the way to its closure.
-use Rattle.std.specs.Prelude.{◌≡◌, ℕ, ◌<◌, ◌≤◌, ◌==◌, List, [], Bool, true, false, Option, None, Some, is_some, length, slice_get, slice_set, take, ℤ, pos, unsigned_abs, ◌+ℤ◌, ◌*ℤ◌, ◌↔◌, ◌⊎◌, slice_index, slice_index_or, IsTrue, Contains, if◌then◌else◌}
+use Rattle.std.specs.Prelude.{◌≡◌, ℕ, ◌<◌, ◌≤◌, ◌==◌, List, [], Bool, true, false, Option, None, Some, is_some, length, slice_get, slice_set, take, ℤ, pos, unsigned_abs, ◌+ℤ◌, ◌*ℤ◌, ◌↔◌, ◌⊎◌}
+use Rattle.std.specs.Prelude.{slice_index, slice_index_or, IsTrue, Contains, if◌then◌else◌}
 use Rattle.std.specs.Option.{unwrap_or}
 use Rattle.rf_terms.specs.declared.kind.Kind.{Kind}
 use Rattle.rf_terms.specs.Kinds.{kinds, roles_of, coefficients_of}

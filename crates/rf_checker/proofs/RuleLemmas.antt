@@ -3,7 +3,8 @@ use Rattle.std.proofs.Common.{◌≡◌, ℕ, zero, suc, ◌<◌, ◌≤◌, ◌
 use Rattle.std.proofs.Math.Seq.{take-set-lt}
 use Rattle.std.specs.Prelude.{is_some, Option, Some, None, MatchOption, nat_lt, slice_index, slice_index_or}
 use Rattle.std.specs.List.{All, list_all}
-use Rattle.std.proofs.lemmas.Bool.{cases_Bool, cases_lt, and_parts, and_from, or_right, or_left, not-true, not_from_false, lt-ltb, leb-true, true≢false, false_from_ne_true, eq-eqb, and_right, or_parts, or_from, not_from_true, le-leb, eqb-true}
+use Rattle.std.proofs.lemmas.Bool.{cases_Bool, cases_lt, and_parts, and_from, or_right, or_left, not-true, not_from_false, lt-ltb, leb-true, true≢false, false_from_ne_true, eq-eqb, and_right}
+use Rattle.std.proofs.lemmas.Bool.{or_parts, or_from, not_from_true, le-leb, eqb-true}
 use Rattle.rf_exclusions.specs.declared.span.Span.{Span}
 use Rattle.rf_exclusions.specs.Spans.{has_in, IsOnly}
 use Rattle.rf_log.specs.Case.{Case, count_of, is_instance, are_distinct, are_together, is_among, is_broken, is_in_order, breaks, freq_of, freqs_at, margin_of}

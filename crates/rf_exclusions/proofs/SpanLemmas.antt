@@ -130,14 +130,17 @@ only_span (span ∷ []) x apart only =
     ap (λ (lo : ℕ). span_of lo span.hi ∷ []) lo_is ∙ ap (λ (hi : ℕ). span_of x hi ∷ []) hi_is
 only_span (span ∷ next ∷ spans) x apart only =
     let lo_is = only.1 span.lo (or_left (between span.lo span.hi span.lo) (has_in (next ∷ spans) span.lo) (ends_in span apart.1).0) in
-    let hi_is = only.1 next.lo (or_right (between span.lo span.hi next.lo) (has_in (next ∷ spans) next.lo) (or_left (between next.lo next.hi next.lo) (has_in spans next.lo) (ends_in next apart.2.1).0)) in
+    let hi_is = only.1 next.lo (or_right (between span.lo span.hi next.lo) (has_in (next ∷ spans) next.lo)
+    (or_left (between next.lo next.hi next.lo) (has_in spans next.lo) (ends_in next apart.2.1).0)) in
     absurd (omega (arith, lo_is, hi_is, apart.1, apart.2.0))
 
 pub empty_iff : (spans slice : List Span) (b : Bool) → AreApart spans → slice ≡ spans → b ≡ (length slice == 0)
     → (IsTrue b → IsEmptySet spans) × (IsEmptySet spans → IsTrue b)
 empty_iff [] slice b apart same is = (λ yes x. refl, λ none. is ∙ ap (λ (xs : List Span). length xs == 0) same)
-empty_iff (span ∷ spans) slice b apart same is =
-    (λ yes. absurd (true≢false (sym yes ∙ (is ∙ (ap (λ (xs : List Span). length xs == 0) same ∙ ne_eqb (length (span ∷ spans)) 0 (λ e. omega arith))))), λ none. let nil = nothing_in (span ∷ spans) apart none in cc)
+empty_iff (span ∷ spans) slice b apart same is = (
+  λ yes. absurd (true≢false (sym yes ∙ (is ∙ (ap (λ (xs : List Span). length xs == 0) same ∙ ne_eqb (length (span ∷ spans)) 0 (λ e. omega arith))))),
+  λ none. let nil = nothing_in (span ∷ spans) apart none in cc,
+)
 
 pub only_slice : (spans slice : List Span) (x : ℕ) → AreApart spans → slice ≡ spans → IsOnly spans x → slice ≡ (record { lo = x; hi = x }) ∷ []
 only_slice spans slice x apart same only = same ∙ only_span spans x apart only

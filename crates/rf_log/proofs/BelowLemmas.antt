@@ -1,5 +1,6 @@
 -- The carriers of a line that is read are places among the names with its names.
-use Rattle.std.proofs.Common.{◌≡◌, ◌∙◌, ◌+◌, ◌-◌, ◌<◌, ◌≤◌, ℕ, zero, suc, List, [], ◌∷◌, ◌++◌, Bool, true, false, refl, sym, arith, subst, length, take, drop, set, replicate, get_or, Some, None, length-set, length-append}
+use Rattle.std.proofs.Common.{◌≡◌, ◌∙◌, ◌+◌, ◌-◌, ◌<◌, ◌≤◌, ℕ, zero, suc, List, [], ◌∷◌, ◌++◌, Bool, true, false, refl, sym, arith, subst, length, take, drop, set, replicate, get_or, Some, None}
+use Rattle.std.proofs.Common.{length-set, length-append}
 use Rattle.std.specs.Prelude.{IfSome, option_map, option_and_then, codes, slice_set, if◌then◌else◌, nat_le, ◌&&◌}
 use Rattle.std.specs.declared.option.Option.{Option}
 use Rattle.std.specs.List.{All, list_any, position_or_len}
@@ -106,7 +107,8 @@ conds_below (suc most) conds names (word ∷ words) h =
     if_either _ (bytes_eq word (codes ";")) (Some (conds, names, words)) _ (record { below = h; grown = omega arith })
     (if_then _ (λ r. IsNumbered names r.0.carrier r.1) _ (cond_by word names words) (cond_below word names words) (λ read is.
     let more : All (IsCondBelow (length read.1)) (conds ++ read.0 ∷ []) =
-    All-append (IsCondBelow (length read.1)) conds (read.0 ∷ []) (conds_more (length names) (length read.1) conds is.grown h) (All-cons (IsCondBelow (length read.1)) read.0 [] is.known (All-nil (IsCondBelow (length read.1)))) in
+    All-append (IsCondBelow (length read.1)) conds (read.0 ∷ []) (conds_more (length names) (length read.1) conds is.grown h)
+    (All-cons (IsCondBelow (length read.1)) read.0 [] is.known (All-nil (IsCondBelow (length read.1)))) in
     if_weaker (λ r. AreBelow (λ n. All (IsCondBelow n)) read.1 r.0 r.1) _ (conds_in most (conds ++ read.0 ∷ []) read.1 read.2)
     (λ r a. let grown = a.grown in let first = is.grown in record { below = a.below; grown = omega arith }) (conds_below most (conds ++ read.0 ∷ []) read.1 read.2 more)))
 
@@ -155,7 +157,8 @@ roles_below (suc count) place total roles names words e h is =
     if_any _ _ (taken name_of words) (λ name.
     let next = numbered names name.0 in
     let set_one = one_set (length names) (length (names_with names name.0)) place (number_of_name names name.0) roles (omega arith) is next.grown next.known in
-    if_weaker (λ r. AreBelow (λ n. AreSet n total) (names_with names name.0) r.0 r.1) _ (roles_in count (suc place) (slice_set roles place (number_of_name names name.0)) (names_with names name.0) name.1)
+    if_weaker (λ r. AreBelow (λ n. AreSet n total) (names_with names name.0) r.0 r.1) _
+    (roles_in count (suc place) (slice_set roles place (number_of_name names name.0)) (names_with names name.0) name.1)
     (λ r a. let grown = a.grown in let first = next.grown in record { below = a.below; grown = omega arith })
     (roles_below count (suc place) total (slice_set roles place (number_of_name names name.0)) (names_with names name.0) name.1 (omega arith) h set_one))
 
@@ -211,14 +214,16 @@ hints_below (suc most) hints names [] h = record { below = h; grown = omega arit
 hints_below (suc most) hints names (word ∷ words) h =
     if_then _ (λ r. AreBelow IsHintBelow names r.0 r.1) _ (hint_by word names words) (hint_below word names words) (λ read is.
     let more : All (IsHintBelow (length read.1)) (hints ++ read.0 ∷ []) =
-    All-append (IsHintBelow (length read.1)) hints (read.0 ∷ []) (hints_more (length names) (length read.1) hints is.grown h) (All-cons (IsHintBelow (length read.1)) read.0 [] is.below (All-nil (IsHintBelow (length read.1)))) in
+    All-append (IsHintBelow (length read.1)) hints (read.0 ∷ []) (hints_more (length names) (length read.1) hints is.grown h)
+    (All-cons (IsHintBelow (length read.1)) read.0 [] is.below (All-nil (IsHintBelow (length read.1)))) in
     if_weaker (λ r. AreBelow (λ n. All (IsHintBelow n)) read.1 r.0 r.1) _ (hints_in most (hints ++ read.0 ∷ []) read.1 read.2)
     (λ r a. let grown = a.grown in let first = is.grown in record { below = a.below; grown = omega arith }) (hints_below most (hints ++ read.0 ∷ []) read.1 read.2 more))
 
 nogood_below : (most : ℕ) (names words : List (List ℕ)) → IfSome (nogood_in most names words) (λ r. AreBelow IsLineBelow names r.0 r.1)
 nogood_below most names words =
     if_then _ (λ r. AreBelow (λ n. All (IsCondBelow n)) names r.0 r.1) _ (conds_in most [] names words) (conds_below most [] names words (All-nil (IsCondBelow (length names)))) (λ conds is.
-    if_then _ (λ r. AreBelow (λ n. All (IsHintBelow n)) conds.1 r.0 r.1) _ (hints_in most [] conds.1 conds.2) (hints_below most [] conds.1 conds.2 (All-nil (IsHintBelow (length conds.1)))) (λ hints are.
+    if_then _ (λ r. AreBelow (λ n. All (IsHintBelow n)) conds.1 r.0 r.1) _ (hints_in most [] conds.1 conds.2)
+    (hints_below most [] conds.1 conds.2 (All-nil (IsHintBelow (length conds.1)))) (λ hints are.
     let grown = is.grown in
     let more = are.grown in
     record { below = (conds_more (length conds.1) (length hints.1) conds.0 more is.below, are.below); grown = omega arith }))

@@ -25,7 +25,8 @@ struck-narrow case among a b c k within living struck = record {
   is_instance = struck.is_instance;
   target = struck.target;
   here = struck.here;
-  others = λ r has other. sole-narrow a b r (struck.at r) within (living r (omega (arith, counts_length case, known_role case struck.kind struck.roles r struck.is_instance has))) (struck.others r has other);
+  others = λ r has other. sole-narrow a b r (struck.at r) within
+      (living r (omega (arith, counts_length case, known_role case struck.kind struck.roles r struck.is_instance has))) (struck.others r has other);
   breaks = struck.breaks;
 }
 

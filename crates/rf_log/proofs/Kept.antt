@@ -87,7 +87,8 @@ module _ (case : Case) (plan : List ℕ) (good : IsPlan case plan) where
       let is_c : cond.carrier ≡ c = eqb-true _ _ e in
       let low' : cond.carrier < length plan = omega arith in
       let met : is_met cond (slice_index plan cond.carrier) ≡ true =
-      implied (box cond.carrier (slice_index plan cond.carrier)) _ (each_below-at (count_of case cond.carrier) (λ k. not (box cond.carrier k) || is_met cond k) (slice_index plan cond.carrier) all (good.known cond.carrier low')) (here cond.carrier low') in
+      implied (box cond.carrier (slice_index plan cond.carrier)) _
+      (each_below-at (count_of case cond.carrier) (λ k. not (box cond.carrier k) || is_met cond k) (slice_index plan cond.carrier) all (good.known cond.carrier low')) (here cond.carrier low') in
       subst (λ (d : ℕ). is_met cond (slice_index plan d) ≡ true) is_c met)
 
   -- the conditions that are not left open are met by the plan

@@ -20,7 +20,8 @@ joined_part p size xs ys part joined =
     let parts = and_parts (share_slice p.slices xs) (all_meet size p.carriers xs) joined in
     and_from (share_slice p.slices ys) (all_meet size p.carriers ys)
     (any_weaker (has_bits xs) (has_bits ys) p.slices (λ slice has. all_part _ xs ys part has) parts.0)
-    (all_from (λ a. list_all (λ b. meet size p.carriers a b) ys) ys (λ a among. all_part (λ b. meet size p.carriers a b) xs ys part (all_at (λ a. list_all (λ b. meet size p.carriers a b) xs) xs a parts.1 (part a among))))
+    (all_from (λ a. list_all (λ b. meet size p.carriers a b) ys) ys
+    (λ a among. all_part (λ b. meet size p.carriers a b) xs ys part (all_at (λ a. list_all (λ b. meet size p.carriers a b) xs) xs a parts.1 (part a among))))
 
 tested_below : (n : ℕ) (set : List ℕ) → All (λ c. c < n) set → list_all (λ c. nat_lt c n) set ≡ true
 tested_below n [] below = refl

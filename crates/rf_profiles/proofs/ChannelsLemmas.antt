@@ -1,4 +1,5 @@
-use Rattle.std.proofs.Common.{◌≡◌, ℕ, zero, suc, ◌+◌, ◌-◌, ◌<◌, ◌≤◌, List, [], ◌∷◌, ◌++◌, length, get_or, set, take, drop, replicate, slice_get, Some, refl, ap, sym, ◌∙◌, arith, length-append, append-nil}
+use Rattle.std.proofs.Common.{◌≡◌, ℕ, zero, suc, ◌+◌, ◌-◌, ◌<◌, ◌≤◌, List, [], ◌∷◌, ◌++◌, length, get_or, set, take, drop, replicate, slice_get, Some, refl, ap, sym, ◌∙◌, arith, length-append}
+use Rattle.std.proofs.Common.{append-nil}
 use Rattle.std.proofs.lemmas.List.{at_drop_more, take-append-drop, take_more_set, length-replicate}
 use Rattle.std.proofs.lemmas.List.Concat.{flat_map-append}
 use Rattle.rf_profiles.specs.Range.{Span, span, IsRange, frequencies}
@@ -27,13 +28,15 @@ pub found_here : (rs : List Span) (i k f : ℕ) (r : Span) → i < length rs →
 found_here rs i k f r h is at = rw (channels-drop rs i r h is) (slice_get_left (frequencies r) _ k f at)
 
 -- it is in a later one
-pub found_later : (rs : List Span) (i k n : ℕ) (r : Span) → i < length rs → r ≡ get_or rs i r → n ≡ length (frequencies r) → n ≤ k → slice_get (channels (drop (i + 1) rs)) (k - n) ≡ slice_get (channels (drop i rs)) k
+pub found_later : (rs : List Span) (i k n : ℕ) (r : Span) → i < length rs → r ≡ get_or rs i r →
+    n ≡ length (frequencies r) → n ≤ k → slice_get (channels (drop (i + 1) rs)) (k - n) ≡ slice_get (channels (drop i rs)) k
 found_later rs i k n r h is e past = rw (channels-drop rs i r h is) (sym (slice_get_right (frequencies r) _ (k - n) k (omega arith)))
 
 pub length-channels-drop : (rs : List Span) (i : ℕ) (r : Span) → i < length rs → r ≡ get_or rs i r → length (channels (drop i rs)) ≡ length (frequencies r) + length (channels (drop (i + 1) rs))
 length-channels-drop rs i r h is = ap length (channels-drop rs i r h is) ∙ length-append (frequencies r) (channels (drop (i + 1) rs))
 
-pub found_in : (rs : List Span) (i k below f : ℕ) (r : Span) → i < length rs → r ≡ get_or rs i r → below ≡ length (channels (take i rs)) → slice_get (frequencies r) k ≡ Some f → slice_get (channels rs) (below + k) ≡ Some f
+pub found_in : (rs : List Span) (i k below f : ℕ) (r : Span) → i < length rs → r ≡ get_or rs i r →
+    below ≡ length (channels (take i rs)) → slice_get (frequencies r) k ≡ Some f → slice_get (channels rs) (below + k) ≡ Some f
 found_in rs i k below f r h is e at =
     ap (λ fs. slice_get fs (below + k)) (channels-split rs i)
     ∙ slice_get_right (channels (take i rs)) (channels (drop i rs)) k (below + k) (omega arith)

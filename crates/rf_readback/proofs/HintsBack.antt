@@ -1,5 +1,6 @@
 -- Conditions and hints that are written are read back with the same names.
-use Rattle.std.proofs.Common.{◌≡◌, ◌∙◌, ◌+◌, ◌<◌, ◌≤◌, ℕ, zero, suc, List, [], ◌∷◌, ◌++◌, Bool, true, false, length, take, map, refl, sym, arith, ap, Some, append-nil, append_assoc, length-set, length-take}
+use Rattle.std.proofs.Common.{◌≡◌, ◌∙◌, ◌+◌, ◌<◌, ◌≤◌, ℕ, zero, suc, List, [], ◌∷◌, ◌++◌, Bool, true, false, length, take, map, refl, sym, arith, ap, Some, append-nil, append_assoc, length-set}
+use Rattle.std.proofs.Common.{length-take}
 use Rattle.std.specs.Prelude.{codes, decimal, slice_set}
 use Rattle.std.specs.List.{All, AllZip, flat_map}
 use Rattle.std.specs.Str.{bytes_eq}
@@ -95,7 +96,10 @@ module _ (names : List (List ℕ)) (named : All IsName names) where
         more = rest.more;
         is = conds_more most done others (name_at names cond.carrier ∷ decimal cond.lo ∷ decimal cond.hi ∷ (flat_map (cond_words names) conds ++ (codes ";" ∷ words)))
             (side_text cond.inside) _ _ _ (side_no_end cond.inside) one ∙ rest.is ∙ ap (λ all. Some (all, rest.more, words)) (append_assoc done (by_number others cond ∷ []) rest.read);
-        same = (cond_kept names _ rest.more rest.grown cond (by_number others cond) (number_of_name others (name_at names cond.carrier), same_numbered names others _ cond.carrier _ number, refl), rest.same);
+        same = (
+          cond_kept names _ rest.more rest.grown cond (by_number others cond) (number_of_name others (name_at names cond.carrier), same_numbered names others _ cond.carrier _ number, refl),
+          rest.same,
+        );
         grown = grown_then others _ rest.more number.grown rest.grown;
       }
 
@@ -139,7 +143,8 @@ module _ (names : List (List ℕ)) (named : All IsName names) where
 
   counted_back : (others : List (List ℕ)) (count : ℕ) (carriers roles : List ℕ) (place : ℕ) (words : List (List ℕ))
       → count ≡ length carriers → place + count ≤ length roles → All (λ c. c < length names) carriers → ReadRoles others count carriers roles place words
-  counted_back others count carriers roles place words size few below = let fit : place + length carriers ≤ length roles = omega arith in rw size (roles_back others carriers roles place words fit below)
+  counted_back others count carriers roles place words size few below =
+      let fit : place + length carriers ≤ length roles = omega arith in rw size (roles_back others carriers roles place words fit below)
 
   -- ---- hints
 

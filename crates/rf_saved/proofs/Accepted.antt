@@ -115,7 +115,8 @@ module _ (read_back : WrittenReadsBack) (sound : ClosedHasNoPlan) (all_honest : 
   accepted_by : (show : ShowData) (n : ℕ) (ending : Ending) (text : List ℕ) (search : IsSearch show n ending text) → differ (carrier_names show.carriers) ≡ true
       → IsReadBack (carrier_names show.carriers) search.log text → IsAccepted show n ending text
   accepted_by show n ending text search apart back =
-      let below : All (IsLineBelow (length show.carriers)) search.log = All-weaker (IsWritten (length show.carriers)) (IsLineBelow (length show.carriers)) (λ line h. h.known) search.log search.written in
+      let below : All (IsLineBelow (length show.carriers)) search.log =
+      All-weaker (IsWritten (length show.carriers)) (IsLineBelow (length show.carriers)) (λ line h. h.known) search.log search.written in
       let same : map trimmed (lines_over show back.log) ≡ map trimmed search.log = read_over show search.log back.log apart below back.same in
       let branches : count_by is_branch back.log.lines ≡ count_by is_branch search.log = branches_read show search.log back.log same in
       let aims : All LineAims search.log = All-weaker (IsLineBelow (length show.carriers)) LineAims (line_target (length show.carriers)) search.log below in

@@ -17,7 +17,8 @@ use Rattle.rf_log.specs.declared.verdict.Verdict.TheVariants as verdict
 use Rattle.rf_log.specs.Case.{Case}
 use Rattle.rf_log.specs.Box.{Box, between, box_of, without}
 use Rattle.rf_log.specs.Hints.{after_hints_of, by_line, conds_in, effect_of, is_ruled_out, is_dead_after, nogood_at}
-use Rattle.rf_log.specs.Walk.{Tree, all_hold, cause_of, ends_empty, finds_line, finds_lines, fits, fits_cond, fits_hint, fits_indices, follows_path, hints_work, is_branch, knows_cond, knows_hint, knows_names, tree_after, unless, verdict_at_end, verdict_of, walk}
+use Rattle.rf_log.specs.Walk.{Tree, all_hold, cause_of, ends_empty, finds_line, finds_lines, fits, fits_cond, fits_hint, fits_indices, follows_path, hints_work, is_branch, knows_cond, knows_hint}
+use Rattle.rf_log.specs.Walk.{knows_names, tree_after, unless, verdict_at_end, verdict_of, walk}
 use Rattle.rf_saved.proofs.ListLemmas.{all_mapped, count_mapped}
 
 -- a rule without the roles beyond its kind's

@@ -1,4 +1,5 @@
-use Rattle.std.proofs.Common.{◌≡◌, ℕ, zero, suc, ◌-◌, ◌<◌, ◌≤◌, Bool, true, false, not, ◌&&◌, ◌||◌, cond, is_some, List, [], ◌∷◌, length, drop, slice_index, nat_le, Some, None, Option, refl, ap, sym, ◌∙◌, arith}
+use Rattle.std.proofs.Common.{◌≡◌, ℕ, zero, suc, ◌-◌, ◌<◌, ◌≤◌, Bool, true, false, not, ◌&&◌, ◌||◌, cond, is_some, List, [], ◌∷◌, length, drop, slice_index, nat_le, Some, None, Option, refl, ap, sym}
+use Rattle.std.proofs.Common.{◌∙◌, arith}
 use Rattle.std.specs.Option.{option_and_then, option_map_or}
 use Rattle.std.specs.List.{list_all}
 use Rattle.std.proofs.lemmas.Bool.{le-leb, leb-true, leb-false, ltb-false}
@@ -12,7 +13,8 @@ use Rattle.rf_zones.specs.declared.coupling.Coupling.TheVariants.{Apart, Coupled
 use Rattle.rf_zones.specs.declared.coupling.Coupling.TheVariants.{Far as CoupledFar}
 use Rattle.rf_show.specs.declared.carrier.Carrier.{Carrier}
 use Rattle.rf_show.specs.declared.edit.Edit.{Edit}
-use Rattle.rf_show.specs.declared.edit.Edit.TheVariants.{AddProfile, AddProfiles, AddRange, DropProfile, AddZone, Couple, Uncouple, Far, AddCarrier, Remove, AddTime, Always, SetAt, Clear, Lock, Unlock, AddBan, Unban, AddScan, Unscan, Place}
+use Rattle.rf_show.specs.declared.edit.Edit.TheVariants.{AddProfile, AddProfiles, AddRange, DropProfile, AddZone, Couple, Uncouple, Far, AddCarrier, Remove, AddTime, Always, SetAt, Clear, Lock}
+use Rattle.rf_show.specs.declared.edit.Edit.TheVariants.{Unlock, AddBan, Unban, AddScan, Unscan, Place}
 use Rattle.rf_show.specs.declared.undo.Step.{Step}
 use Rattle.rf_show.specs.Limits.{most_profiles, widest}
 use Rattle.rf_show.specs.After.{change_first, edited, is_edit, new_carrier, new_scan, reasons, refusal, with_some}
@@ -22,7 +24,8 @@ use Rattle.rf_show.proofs.FirstLemmas.{find_any}
 use Rattle.rf_show.proofs.KeptLemmas.{Kept, kept, is_kept}
 use Rattle.rf_show.proofs.ListLemmas.{and_true, both_true, list_all-wider, not_false}
 use Rattle.rf_show.proofs.ReasonLemmas.{none_holds}
-use Rattle.rf_show.proofs.EditedLemmas.{change_carrier_kept, remove_carrier_kept, add_carrier_kept, place_kept, change_profile_kept, drop_profile_kept, add_profiles_kept, add_ban_kept, remove_ban_kept, add_scan_kept, remove_scan_kept, add_zone_kept, couple_kept}
+use Rattle.rf_show.proofs.EditedLemmas.{change_carrier_kept, remove_carrier_kept, add_carrier_kept, place_kept, change_profile_kept, drop_profile_kept, add_profiles_kept, add_ban_kept}
+use Rattle.rf_show.proofs.EditedLemmas.{remove_ban_kept, add_scan_kept, remove_scan_kept, add_zone_kept, couple_kept}
 
 -- a width that a text may give is none too large for a show
 width_narrow : (n : ℕ) → is_width n ≡ true → nat_le n widest ≡ true
@@ -54,7 +57,8 @@ made_channels : (name ns : List ℕ) (o : Option (List Span)) → list_all is_wi
 made_channels name ns None h = tt
 made_channels name ns (Some channels) h = (refl, narrow_with name ns channels h)
 
-made_range : (name ns : List ℕ) (o : Option Span) → list_all is_width (drop 3 ns) ≡ true → Made name (option_and_then (λ range. option_and_then (λ channels. Some (profile_with name ns channels)) (channels_of range)) o)
+made_range : (name ns : List ℕ) (o : Option Span) → list_all is_width (drop 3 ns) ≡ true →
+    Made name (option_and_then (λ range. option_and_then (λ channels. Some (profile_with name ns channels)) (channels_of range)) o)
 made_range name ns None h = tt
 made_range name ns (Some range) h = made_channels name ns (channels_of range) h
 
@@ -65,7 +69,8 @@ made_cond name false o h = tt
 made : (name ns : List ℕ) → Made name (profile_of name ns)
 made name ns = made_cond name (list_all is_width (drop 3 ns)) _ (made_range name ns (range_of (slice_index ns 0) (slice_index ns 1) (slice_index ns 2)))
 
-new_profile_kept : (s : ShowData) (name : List ℕ) (o : Option Profile) → Kept s → length s.profiles < most_profiles → has_profile s.profiles name ≡ false → Made name o → Kept (record s { profiles = with_some s.profiles o })
+new_profile_kept : (s : ShowData) (name : List ℕ) (o : Option Profile) → Kept s → length s.profiles < most_profiles →
+    has_profile s.profiles name ≡ false → Made name o → Kept (record s { profiles = with_some s.profiles o })
 new_profile_kept s name None k room new m = k
 new_profile_kept s name (Some p) k room new m =
     add_profiles_kept s (p ∷ []) k (omega arith)
@@ -74,7 +79,9 @@ new_profile_kept s name (Some p) k room new m =
 carriers_only : (s : ShowData) (cs : List Carrier) → Kept s → are_carriers s.profiles s.zones cs ≡ true → Kept (record s { carriers = cs })
 carriers_only s cs k h = record { profiles = k.profiles; carriers = h; bans = k.bans; scans = k.scans }
 
-carrier_only : (s : ShowData) (name : List ℕ) (f : Carrier → Carrier) → Kept s → ((c : Carrier) → (f c).name ≡ c.name) → ((c : Carrier) → belongs s.profiles s.zones (f c) ≡ belongs s.profiles s.zones c) → ((c : Carrier) → carrier_named s.carriers name ≡ Some c → is_steady c ≡ true → is_steady (f c) ≡ true) → Kept (record s { carriers = change_first (is_carrier name) f s.carriers })
+carrier_only : (s : ShowData) (name : List ℕ) (f : Carrier → Carrier) → Kept s → ((c : Carrier) → (f c).name ≡ c.name) →
+    ((c : Carrier) → belongs s.profiles s.zones (f c) ≡ belongs s.profiles s.zones c) →
+    ((c : Carrier) → carrier_named s.carriers name ≡ Some c → is_steady c ≡ true → is_steady (f c) ≡ true) → Kept (record s { carriers = change_first (is_carrier name) f s.carriers })
 carrier_only s name f k names there steady =
     carriers_only s (change_first (is_carrier name) f s.carriers) k (change_carrier_kept s.profiles s.zones s.carriers name f k.carriers names there steady)
 

@@ -1,4 +1,5 @@
-use Rattle.std.proofs.Common.{◌≡◌, ℕ, ◌+◌, ◌<◌, ◌≤◌, Bool, true, false, ◌&&◌, ◌||◌, cond, List, [], ◌∷◌, ◌++◌, length, nat_eq, set, remove, position, Some, None, is_some, Option, refl, ap, sym, ◌∙◌, arith, length-append}
+use Rattle.std.proofs.Common.{◌≡◌, ℕ, ◌+◌, ◌<◌, ◌≤◌, Bool, true, false, ◌&&◌, ◌||◌, cond, List, [], ◌∷◌, ◌++◌, length, nat_eq, set, remove, position, Some, None, is_some, Option, refl, ap, sym, ◌∙◌}
+use Rattle.std.proofs.Common.{arith, length-append}
 use Rattle.std.specs.List.{list_all, list_any}
 use Rattle.std.proofs.lemmas.List.{map-append}
 use Rattle.std.proofs.lemmas.List.Edits.{length-remove}
@@ -15,8 +16,10 @@ use Rattle.rf_show.specs.Limits.{most_bans, most_carriers, most_profiles, most_s
 use Rattle.rf_show.specs.After.{change_first, remove_first, placed}
 use Rattle.rf_show.specs.Reasons.{moves_locked}
 use Rattle.rf_profiles.specs.Profile.{differ, profile_names}
-use Rattle.rf_show.specs.Show.{ShowData, are_carriers, are_bans, are_scans, is_ban, is_carrier, is_profile, is_scan, has_profile, has_zone, has_zone_or_all, is_used, carrier_names, is_narrow, is_steady, carrier_named, belongs}
-use Rattle.rf_show.proofs.FirstLemmas.{map-change_first, length-change_first, list_all-change_first, list_all-change_found, or_false, length-remove_first, list_all-remove_first, list_any-remove_first, find_any, list_any-map, list_any-same, position_any}
+use Rattle.rf_show.specs.Show.{ShowData, are_carriers, are_bans, are_scans, is_ban, is_carrier, is_profile, is_scan, has_profile, has_zone, has_zone_or_all, is_used, carrier_names, is_narrow}
+use Rattle.rf_show.specs.Show.{is_steady, carrier_named, belongs}
+use Rattle.rf_show.proofs.FirstLemmas.{map-change_first, length-change_first, list_all-change_first, list_all-change_found, or_false, length-remove_first, list_all-remove_first, list_any-remove_first}
+use Rattle.rf_show.proofs.FirstLemmas.{find_any, list_any-map, list_any-same, position_any}
 use Rattle.rf_show.proofs.KeptLemmas.{Kept, profiles_kept, are_kept_profiles, carriers_kept, are_kept_carriers}
 use Rattle.rf_show.proofs.ListLemmas.{and_true, both_true, list_all-remove, list_all-wider, or_left}
 use Rattle.rf_show.proofs.NameLemmas.{differ-remove_first, differ-append, same_both}
@@ -29,7 +32,9 @@ has_profile_names ps name = find_any (is_profile name) ps ∙ sym (list_any-map 
 -- ---- carriers
 
 -- a change of the named carrier that keeps its names, and leaves it a frequency where it is locked
-pub change_carrier_kept : (ps : List Profile) (z : ZonesData) (cs : List Carrier) (name : List ℕ) (f : Carrier → Carrier) → are_carriers ps z cs ≡ true → ((c : Carrier) → (f c).name ≡ c.name) → ((c : Carrier) → belongs ps z (f c) ≡ belongs ps z c) → ((c : Carrier) → carrier_named cs name ≡ Some c → is_steady c ≡ true → is_steady (f c) ≡ true) → are_carriers ps z (change_first (is_carrier name) f cs) ≡ true
+pub change_carrier_kept : (ps : List Profile) (z : ZonesData) (cs : List Carrier) (name : List ℕ) (f : Carrier → Carrier) → are_carriers ps z cs ≡ true → ((c : Carrier) → (f c).name ≡ c.name) →
+    ((c : Carrier) → belongs ps z (f c) ≡ belongs ps z c) → ((c : Carrier) → carrier_named cs name ≡ Some c → is_steady c ≡ true → is_steady (f c) ≡ true) →
+    are_carriers ps z (change_first (is_carrier name) f cs) ≡ true
 change_carrier_kept ps z cs name f h names there steady =
     let k = carriers_kept ps z cs h in
     are_kept_carriers ps z (change_first (is_carrier name) f cs) (record {
@@ -50,7 +55,8 @@ remove_carrier_kept ps z cs name h =
     })
 
 -- a carrier of a new name
-pub add_carrier_kept : (ps : List Profile) (z : ZonesData) (cs : List Carrier) (c : Carrier) → are_carriers ps z cs ≡ true → length cs < most_carriers → list_any (is_carrier c.name) cs ≡ false → belongs ps z c ≡ true → is_steady c ≡ true → are_carriers ps z (cs ++ c ∷ []) ≡ true
+pub add_carrier_kept : (ps : List Profile) (z : ZonesData) (cs : List Carrier) (c : Carrier) → are_carriers ps z cs ≡ true → length cs < most_carriers →
+    list_any (is_carrier c.name) cs ≡ false → belongs ps z c ≡ true → is_steady c ≡ true → are_carriers ps z (cs ++ c ∷ []) ≡ true
 add_carrier_kept ps z cs c h room new there steady =
     let k = carriers_kept ps z cs h in
     are_kept_carriers ps z (cs ++ c ∷ []) (record {
@@ -73,7 +79,8 @@ place_kept ps z cs ats h stay =
     })
 
 -- they belong to more profiles and zones, too
-pub wider_kept : (ps qs : List Profile) (z w : ZonesData) (cs : List Carrier) → ((n : List ℕ) → has_profile ps n ≡ true → has_profile qs n ≡ true) → ((n : List ℕ) → has_zone z n ≡ true → has_zone w n ≡ true) → are_carriers ps z cs ≡ true → are_carriers qs w cs ≡ true
+pub wider_kept : (ps qs : List Profile) (z w : ZonesData) (cs : List Carrier) → ((n : List ℕ) → has_profile ps n ≡ true → has_profile qs n ≡ true) →
+    ((n : List ℕ) → has_zone z n ≡ true → has_zone w n ≡ true) → are_carriers ps z cs ≡ true → are_carriers qs w cs ≡ true
 wider_kept ps qs z w cs hp hz h =
     let k = carriers_kept ps z cs h in
     are_kept_carriers qs w cs (record {
@@ -87,7 +94,8 @@ wider_kept ps qs z w cs hp hz h =
 -- ---- profiles
 
 -- a change of the named profile that keeps its name and its widths
-pub change_profile_kept : (s : ShowData) (name : List ℕ) (f : Profile → Profile) → Kept s → ((p : Profile) → (f p).name ≡ p.name) → ((p : Profile) → is_narrow (f p) ≡ is_narrow p) → Kept (record s { profiles = change_first (is_profile name) f s.profiles })
+pub change_profile_kept : (s : ShowData) (name : List ℕ) (f : Profile → Profile) → Kept s → ((p : Profile) → (f p).name ≡ p.name) →
+    ((p : Profile) → is_narrow (f p) ≡ is_narrow p) → Kept (record s { profiles = change_first (is_profile name) f s.profiles })
 change_profile_kept s name f k names widths =
     let ps : List Profile = change_first (is_profile name) f s.profiles in
     let same : profile_names ps ≡ profile_names s.profiles = map-change_first (λ p. p.name) (is_profile name) f s.profiles names in
@@ -117,7 +125,8 @@ other_profile ps name other apart h =
     (λ p. λ e. false_unless (same_name p.name other) (λ f. let both = same_both p.name name other e f in cc (apart, both)))
     (sym (find_any (is_profile other) ps) ∙ h)
 
-belong_still : (ps : List Profile) (z : ZonesData) (name : List ℕ) (cs : List Carrier) → is_used cs name ≡ false → list_all (belongs ps z) cs ≡ true → list_all (belongs (remove_first (is_profile name) ps) z) cs ≡ true
+belong_still : (ps : List Profile) (z : ZonesData) (name : List ℕ) (cs : List Carrier) → is_used cs name ≡ false →
+    list_all (belongs ps z) cs ≡ true → list_all (belongs (remove_first (is_profile name) ps) z) cs ≡ true
 belong_still ps z name [] free h = refl
 belong_still ps z name (c ∷ cs) free h =
     let apart = or_false (same_name c.profile name) (is_used cs name) free in
@@ -144,7 +153,8 @@ drop_profile_kept s name k free =
     }
 
 -- profiles of new names that differ
-pub add_profiles_kept : (s : ShowData) (list : List Profile) → Kept s → length s.profiles + length list ≤ most_profiles → list_any (λ p. has_profile s.profiles p.name) list ≡ false → differ (profile_names list) ≡ true → list_all is_narrow list ≡ true → Kept (record s { profiles = s.profiles ++ list })
+pub add_profiles_kept : (s : ShowData) (list : List Profile) → Kept s → length s.profiles + length list ≤ most_profiles → list_any (λ p. has_profile s.profiles p.name) list ≡ false →
+    differ (profile_names list) ≡ true → list_all is_narrow list ≡ true → Kept (record s { profiles = s.profiles ++ list })
 add_profiles_kept s list k room new apart narrow =
     let own = profiles_kept s.profiles k.profiles in
     record {

@@ -1,4 +1,5 @@
-use Rattle.std.proofs.Common.{◌≡◌, ℕ, zero, suc, ◌+◌, ◌<◌, ◌≤◌, Bool, true, false, not, ◌&&◌, ◌||◌, cond, List, [], ◌∷◌, map, length, get_or, find, Some, None, is_some, position, nat_lt, Option, refl, ap, sym, ◌∙◌, arith}
+use Rattle.std.proofs.Common.{◌≡◌, ℕ, zero, suc, ◌+◌, ◌<◌, ◌≤◌, Bool, true, false, not, ◌&&◌, ◌||◌, cond, List, [], ◌∷◌, map, length, get_or, find, Some, None, is_some, position, nat_lt, Option, refl}
+use Rattle.std.proofs.Common.{ap, sym, ◌∙◌, arith}
 use Rattle.std.specs.List.{list_all, list_any, position_or_len}
 use Rattle.std.proofs.lemmas.Bool.{lt-ltb}
 use Rattle.std.proofs.lemmas.List.{length-map}
@@ -28,7 +29,8 @@ pub list_all-change_first : {X : Type 0} (q : X → Bool) (p : X → Bool) (f : 
 list_all-change_first q p f [] e = refl
 list_all-change_first q p f (x ∷ xs) e = all_cond (p x) q x (f x) xs (change_first p f xs) (e x) (list_all-change_first q p f xs e)
 
-kept_cond : {X : Type 0} (b : Bool) (q : X → Bool) (f : X → X) (x : X) (xs ys : List X) → (q x && list_all q xs) ≡ true → (b ≡ true → q (f x) ≡ true) → (b ≡ false → list_all q ys ≡ true) → list_all q (cond b (f x ∷ xs) (x ∷ ys)) ≡ true
+kept_cond : {X : Type 0} (b : Bool) (q : X → Bool) (f : X → X) (x : X) (xs ys : List X) → (q x && list_all q xs) ≡ true →
+    (b ≡ true → q (f x) ≡ true) → (b ≡ false → list_all q ys ≡ true) → list_all q (cond b (f x ∷ xs) (x ∷ ys)) ≡ true
 kept_cond true q f x xs ys h now rest = and_true _ _ (now refl) (both_true _ _ h).1
 kept_cond false q f x xs ys h now rest = and_true _ _ (both_true _ _ h).0 (rest refl)
 
@@ -39,7 +41,8 @@ find_tail : {X : Type 0} (p : X → Bool) (x : X) (xs : List X) → p x ≡ fals
 find_tail p x xs e = ap (λ b. cond b (Some x) (find p xs)) e
 
 -- what holds of all still holds where it holds of the one that is changed
-pub list_all-change_found : {X : Type 0} (q : X → Bool) (p : X → Bool) (f : X → X) (xs : List X) → list_all q xs ≡ true → ((x : X) → find p xs ≡ Some x → q x ≡ true → q (f x) ≡ true) → list_all q (change_first p f xs) ≡ true
+pub list_all-change_found : {X : Type 0} (q : X → Bool) (p : X → Bool) (f : X → X) (xs : List X) → list_all q xs ≡ true →
+    ((x : X) → find p xs ≡ Some x → q x ≡ true → q (f x) ≡ true) → list_all q (change_first p f xs) ≡ true
 list_all-change_found q p f [] h e = refl
 list_all-change_found q p f (x ∷ xs) h e =
     kept_cond (p x) q f x xs (change_first p f xs) h
@@ -68,7 +71,8 @@ any_rest : (a b c : Bool) → (a || b) ≡ true → (b ≡ true → c ≡ true) 
 any_rest true b c h k = refl
 any_rest false b c h k = k h
 
-any_left : {X : Type 0} (b : Bool) (q : X → Bool) (x : X) (xs ys : List X) → (b ≡ true → q x ≡ false) → (q x || list_any q xs) ≡ true → (list_any q xs ≡ true → list_any q ys ≡ true) → list_any q (cond b xs (x ∷ ys)) ≡ true
+any_left : {X : Type 0} (b : Bool) (q : X → Bool) (x : X) (xs ys : List X) → (b ≡ true → q x ≡ false) →
+    (q x || list_any q xs) ≡ true → (list_any q xs ≡ true → list_any q ys ≡ true) → list_any q (cond b xs (x ∷ ys)) ≡ true
 any_left true q x xs ys n h k = sym (ap (λ z. z || list_any q xs) (n refl)) ∙ h
 any_left false q x xs ys n h k = any_rest (q x) (list_any q xs) (list_any q ys) h k
 
@@ -122,7 +126,8 @@ some_cond false x = refl
 pub position_any : {X : Type 0} (p : X → Bool) (xs : List X) → is_some (position p xs) ≡ list_any p xs
 position_any p xs = some_cond (nat_lt (position_or_len p xs) (length xs)) (position_or_len p xs) ∙ place_any p xs
 
-found_cond : {X : Type 0} (p : X → Bool) (x : X) (xs : List X) (i : ℕ) (c : X) (b : Bool) → i ≡ cond (not b) (1 + position_or_len p xs) 0 → i < suc (length xs) → c ≡ get_or (x ∷ xs) i c → ((j : ℕ) → j ≡ position_or_len p xs → j < length xs → c ≡ get_or xs j c → find p xs ≡ Some c) → cond b (Some x) (find p xs) ≡ Some c
+found_cond : {X : Type 0} (p : X → Bool) (x : X) (xs : List X) (i : ℕ) (c : X) (b : Bool) → i ≡ cond (not b) (1 + position_or_len p xs) 0 → i < suc (length xs) →
+    c ≡ get_or (x ∷ xs) i c → ((j : ℕ) → j ≡ position_or_len p xs → j < length xs → c ≡ get_or xs j c → find p xs ≡ Some c) → cond b (Some x) (find p xs) ≡ Some c
 found_cond p x xs zero c true e h v rest = ap Some (sym v)
 found_cond p x xs (suc i) c true e h v rest = absurd (omega arith)
 found_cond p x xs zero c false e h v rest = absurd (omega arith)

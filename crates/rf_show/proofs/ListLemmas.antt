@@ -1,4 +1,5 @@
-use Rattle.std.proofs.Common.{◌≡◌, ℕ, zero, suc, ◌+◌, ◌<◌, ◌≤◌, Bool, true, false, not, ◌&&◌, ◌||◌, cond, Some, IsSome, List, [], ◌∷◌, length, get_or, set, insert, remove, find, position, refl, ap, sym, arith}
+use Rattle.std.proofs.Common.{◌≡◌, ℕ, zero, suc, ◌+◌, ◌<◌, ◌≤◌, Bool, true, false, not, ◌&&◌, ◌||◌, cond, Some, IsSome, List, [], ◌∷◌, length, get_or, set, insert, remove, find, position, refl, ap}
+use Rattle.std.proofs.Common.{sym, arith}
 use Rattle.std.specs.List.{position_or_len, list_all}
 use Rattle.std.proofs.lemmas.Bool.{lt-ltb}
 use Rattle.rf_show.specs.After.{change_first, remove_first}
@@ -23,7 +24,8 @@ both_true false b h = cc
 
 -- ---- the first element that passes
 
-change_cons : {X : Type 0} (p : X → Bool) (f : X → X) (x : X) (xs : List X) (i : ℕ) (c : X) (b : Bool) → i ≡ cond (not b) (1 + position_or_len p xs) 0 → i < suc (length xs) → c ≡ get_or (x ∷ xs) i c → ((j : ℕ) → j ≡ position_or_len p xs → j < length xs → c ≡ get_or xs j c → change_first p f xs ≡ set xs j (f c)) → cond b (f x ∷ xs) (x ∷ change_first p f xs) ≡ set (x ∷ xs) i (f c)
+change_cons : {X : Type 0} (p : X → Bool) (f : X → X) (x : X) (xs : List X) (i : ℕ) (c : X) (b : Bool) → i ≡ cond (not b) (1 + position_or_len p xs) 0 → i < suc (length xs) → c ≡ get_or (x ∷ xs) i c →
+    ((j : ℕ) → j ≡ position_or_len p xs → j < length xs → c ≡ get_or xs j c → change_first p f xs ≡ set xs j (f c)) → cond b (f x ∷ xs) (x ∷ change_first p f xs) ≡ set (x ∷ xs) i (f c)
 change_cons p f x xs zero c true e h v rest = ap (λ y. f y ∷ xs) (sym v)
 change_cons p f x xs (suc i) c true e h v rest = absurd (omega arith)
 change_cons p f x xs zero c false e h v rest = absurd (omega arith)
@@ -33,7 +35,8 @@ pub change_first_at : {X : Type 0} (p : X → Bool) (f : X → X) (xs : List X) 
 change_first_at p f [] i c e h v = absurd (omega arith)
 change_first_at p f (x ∷ xs) i c e h v = change_cons p f x xs i c (p x) e h v (λ j. change_first_at p f xs j c)
 
-remove_cons : {X : Type 0} (p : X → Bool) (x : X) (xs : List X) (i : ℕ) (b : Bool) → i ≡ cond (not b) (1 + position_or_len p xs) 0 → i < suc (length xs) → ((j : ℕ) → j ≡ position_or_len p xs → j < length xs → remove_first p xs ≡ remove xs j) → cond b xs (x ∷ remove_first p xs) ≡ remove (x ∷ xs) i
+remove_cons : {X : Type 0} (p : X → Bool) (x : X) (xs : List X) (i : ℕ) (b : Bool) → i ≡ cond (not b) (1 + position_or_len p xs) 0 → i < suc (length xs) →
+    ((j : ℕ) → j ≡ position_or_len p xs → j < length xs → remove_first p xs ≡ remove xs j) → cond b xs (x ∷ remove_first p xs) ≡ remove (x ∷ xs) i
 remove_cons p x xs zero true e h rest = refl
 remove_cons p x xs (suc i) true e h rest = absurd (omega arith)
 remove_cons p x xs zero false e h rest = absurd (omega arith)
@@ -43,7 +46,8 @@ pub remove_first_at : {X : Type 0} (p : X → Bool) (xs : List X) (i : ℕ) → 
 remove_first_at p [] i e h = absurd (omega arith)
 remove_first_at p (x ∷ xs) i e h = remove_cons p x xs i (p x) e h (λ j. remove_first_at p xs j)
 
-found_cons : {X : Type 0} (p : X → Bool) (x : X) (xs : List X) (b : Bool) → IsSome (cond b (Some x) (find p xs)) → (IsSome (find p xs) → position_or_len p xs < length xs) → cond (not b) (1 + position_or_len p xs) 0 < suc (length xs)
+found_cons : {X : Type 0} (p : X → Bool) (x : X) (xs : List X) (b : Bool) → IsSome (cond b (Some x) (find p xs)) →
+    (IsSome (find p xs) → position_or_len p xs < length xs) → cond (not b) (1 + position_or_len p xs) 0 < suc (length xs)
 found_cons p x xs true h rest = omega arith
 found_cons p x xs false h rest = omega (arith, rest h)
 

@@ -12,7 +12,8 @@ not_true : (b : Bool) → not b ≡ true → b ≡ false
 not_true true h = cc
 not_true false h = refl
 
-differ_cond : {X : Type 0} (b : Bool) (g : X → List ℕ) (x : X) (xs ys : List X) → differ (map g (x ∷ xs)) ≡ true → (list_any (same_name (g x)) (map g xs) ≡ false → list_any (same_name (g x)) (map g ys) ≡ false) → (differ (map g xs) ≡ true → differ (map g ys) ≡ true) → differ (map g (cond b xs (x ∷ ys))) ≡ true
+differ_cond : {X : Type 0} (b : Bool) (g : X → List ℕ) (x : X) (xs ys : List X) → differ (map g (x ∷ xs)) ≡ true →
+    (list_any (same_name (g x)) (map g xs) ≡ false → list_any (same_name (g x)) (map g ys) ≡ false) → (differ (map g xs) ≡ true → differ (map g ys) ≡ true) → differ (map g (cond b xs (x ∷ ys))) ≡ true
 differ_cond true g x xs ys h n k = (both_true _ _ h).1
 differ_cond false g x xs ys h n k =
     let parts = both_true _ _ h in

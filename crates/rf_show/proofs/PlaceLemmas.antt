@@ -22,13 +22,15 @@ taken_to (suc i) [] ats = ats
 taken_to (suc i) (c ∷ cs) [] = []
 taken_to (suc i) (c ∷ cs) (at ∷ ats) = c.at ∷ taken_to i cs ats
 
-pub placed_more : (i : ℕ) (cs : List Carrier) (ats : List (Option ℕ)) (c : Carrier) (at : Option ℕ) → i < length cs → length ats ≡ length cs → c ≡ get_or (placed_to i cs ats) i c → at ≡ get_or (taken_to i cs ats) i at → set (placed_to i cs ats) i (record c { at = at }) ≡ placed_to (suc i) cs ats
+pub placed_more : (i : ℕ) (cs : List Carrier) (ats : List (Option ℕ)) (c : Carrier) (at : Option ℕ) → i < length cs → length ats ≡ length cs →
+    c ≡ get_or (placed_to i cs ats) i c → at ≡ get_or (taken_to i cs ats) i at → set (placed_to i cs ats) i (record c { at = at }) ≡ placed_to (suc i) cs ats
 placed_more i [] ats c at h l e f = absurd (omega arith)
 placed_more i (x ∷ cs) [] c at h l e f = absurd (omega arith)
 placed_more zero (x ∷ cs) (y ∷ ats) c at h l e f = ap (λ (q : Carrier). record q { at = at } ∷ cs) e ∙ ap (λ q. record x { at = q } ∷ cs) f
 placed_more (suc i) (x ∷ cs) (y ∷ ats) c at h l e f = ap (λ q. record x { at = y } ∷ q) (placed_more i cs ats c at (omega arith) (omega arith) e f)
 
-pub taken_more : (i : ℕ) (cs : List Carrier) (ats : List (Option ℕ)) (c : Carrier) → i < length cs → length ats ≡ length cs → c ≡ get_or (placed_to i cs ats) i c → set (taken_to i cs ats) i c.at ≡ taken_to (suc i) cs ats
+pub taken_more : (i : ℕ) (cs : List Carrier) (ats : List (Option ℕ)) (c : Carrier) → i < length cs →
+    length ats ≡ length cs → c ≡ get_or (placed_to i cs ats) i c → set (taken_to i cs ats) i c.at ≡ taken_to (suc i) cs ats
 taken_more i [] ats c h l e = absurd (omega arith)
 taken_more i (x ∷ cs) [] c h l e = absurd (omega arith)
 taken_more zero (x ∷ cs) (y ∷ ats) c h l e = ap (λ (q : Carrier). q.at ∷ ats) e
@@ -82,7 +84,8 @@ placed_steady (c ∷ cs) (at ∷ ats) h k =
     and_true _ _ (steady_at c.locked c.at at all.0 none.0) (placed_steady cs ats all.1 none.1)
 
 -- one turn of the loop that swaps them
-pub placed_step : (cs xs : List Carrier) (ats ys : List (Option ℕ)) (i : ℕ) (d : Carrier) (at : Option ℕ) → i < length cs → i < length xs → length ats ≡ length cs → xs ≡ placed_to i cs ats → ys ≡ taken_to i cs ats → at ≡ get_or ys i at → set xs i (record (get_or xs i d) { at = at }) ≡ placed_to (i + 1) cs ats
+pub placed_step : (cs xs : List Carrier) (ats ys : List (Option ℕ)) (i : ℕ) (d : Carrier) (at : Option ℕ) → i < length cs → i < length xs → length ats ≡ length cs →
+    xs ≡ placed_to i cs ats → ys ≡ taken_to i cs ats → at ≡ get_or ys i at → set xs i (record (get_or xs i d) { at = at }) ≡ placed_to (i + 1) cs ats
 placed_step cs xs ats ys i d at h hx l ex ey f =
     let c : Carrier = get_or xs i d in
     let is : c ≡ get_or (placed_to i cs ats) i c = get_or_default xs i d c hx ∙ ap (λ q. get_or q i c) ex in
@@ -90,7 +93,8 @@ placed_step cs xs ats ys i d at h hx l ex ey f =
     ∙ placed_more i cs ats c at h l is (f ∙ ap (λ q. get_or q i at) ey)
     ∙ ap (λ n. placed_to n cs ats) (sym (add-one i))
 
-pub taken_step : (cs xs : List Carrier) (ats ys : List (Option ℕ)) (i : ℕ) (d : Carrier) → i < length cs → i < length xs → length ats ≡ length cs → xs ≡ placed_to i cs ats → ys ≡ taken_to i cs ats → set ys i (get_or xs i d).at ≡ taken_to (i + 1) cs ats
+pub taken_step : (cs xs : List Carrier) (ats ys : List (Option ℕ)) (i : ℕ) (d : Carrier) → i < length cs → i < length xs →
+    length ats ≡ length cs → xs ≡ placed_to i cs ats → ys ≡ taken_to i cs ats → set ys i (get_or xs i d).at ≡ taken_to (i + 1) cs ats
 taken_step cs xs ats ys i d h hx l ex ey =
     let c : Carrier = get_or xs i d in
     let is : c ≡ get_or (placed_to i cs ats) i c = get_or_default xs i d c hx ∙ ap (λ q. get_or q i c) ex in

@@ -57,7 +57,8 @@ scans_room s u change h e =
     leb-true _ _ (both_true _ _ (kept _ (ap (λ u. is_show (stepped s u)) (sym e) ∙ led_shown s u h)).scans).0
 
 -- a carrier that may have an interval more
-pub time_room : (cs : List Carrier) (name : List ℕ) (from to : ℕ) (i : ℕ) (c : Carrier) → first_reason (time_reasons cs name from to) ≡ None → i ≡ position_or_len (is_carrier name) cs → i < length cs → c ≡ get_or cs i c → length c.times < most_intervals
+pub time_room : (cs : List Carrier) (name : List ℕ) (from to : ℕ) (i : ℕ) (c : Carrier) → first_reason (time_reasons cs name from to) ≡ None →
+    i ≡ position_or_len (is_carrier name) cs → i < length cs → c ≡ get_or cs i c → length c.times < most_intervals
 time_room cs name from to i c h at within is =
     let none = none_holds (time_reasons cs name from to) h in
     let found = find_at (is_carrier name) cs i c at within is in
@@ -70,7 +71,8 @@ no_fault (Err Many) h = cc
 no_fault (Err Ninth) h = cc
 
 -- a range that makes no reason can be added
-pub range_fits : (ps : List Profile) (name : List ℕ) (o : Option Span) (range : Span) (i : ℕ) (p : Profile) → named_range_reason (profile_named ps name) o ≡ None → o ≡ Some range → i ≡ position_or_len (is_profile name) ps → i < length ps → p ≡ get_or ps i p → IsOk (with_range p.channels range)
+pub range_fits : (ps : List Profile) (name : List ℕ) (o : Option Span) (range : Span) (i : ℕ) (p : Profile) → named_range_reason (profile_named ps name) o ≡ None →
+    o ≡ Some range → i ≡ position_or_len (is_profile name) ps → i < length ps → p ≡ get_or ps i p → IsOk (with_range p.channels range)
 range_fits ps name o range i p h e at within is =
     no_fault _ (sym (ap (λ q. named_range_reason q o) (find_at (is_profile name) ps i p at within is) ∙ ap (named_range_reason (Some p)) e) ∙ h)
 

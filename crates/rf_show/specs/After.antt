@@ -12,9 +12,11 @@ use Rattle.rf_zones.specs.declared.coupling.Coupling.TheVariants.{Apart, Coupled
 use Rattle.rf_zones.specs.declared.coupling.Coupling.TheVariants.{Far as CoupledFar}
 use Rattle.rf_show.specs.declared.carrier.Carrier.{Carrier}
 use Rattle.rf_show.specs.declared.edit.Edit.{Edit}
-use Rattle.rf_show.specs.declared.edit.Edit.TheVariants.{AddProfile, AddProfiles, AddRange, DropProfile, AddZone, Couple, Uncouple, Far, AddCarrier, Remove, AddTime, Always, SetAt, Clear, Lock, Unlock, AddBan, Unban, AddScan, Unscan, Place}
+use Rattle.rf_show.specs.declared.edit.Edit.TheVariants.{AddProfile, AddProfiles, AddRange, DropProfile, AddZone, Couple, Uncouple, Far, AddCarrier, Remove, AddTime, Always, SetAt, Clear, Lock}
+use Rattle.rf_show.specs.declared.edit.Edit.TheVariants.{Unlock, AddBan, Unban, AddScan, Unscan, Place}
 use Rattle.rf_show.specs.declared.refusal.Refusal.{Refusal}
-use Rattle.rf_show.specs.Reasons.{first_reason, new_profile_reasons, new_profiles_reasons, range_reasons, drop_profile_reasons, new_zone_reasons, coupling_reasons, new_carrier_reasons, named_reasons, unlocked_reasons, set_reasons, lock_reasons, time_reasons, place_reasons, new_ban_reasons, new_scan_reasons, numbered_reasons}
+use Rattle.rf_show.specs.Reasons.{first_reason, new_profile_reasons, new_profiles_reasons, range_reasons, drop_profile_reasons, new_zone_reasons, coupling_reasons, new_carrier_reasons, named_reasons}
+use Rattle.rf_show.specs.Reasons.{unlocked_reasons, set_reasons, lock_reasons, time_reasons, place_reasons, new_ban_reasons, new_scan_reasons, numbered_reasons}
 use Rattle.rf_show.specs.Show.{ShowData, is_carrier, is_profile, zone_number}
 
 -- the first element that passes, changed by f

@@ -89,7 +89,8 @@ written_in_part w {first} {last} {log} way =
     let names = w.names first in
     let front = lines_text names way.before in
     let so_far = written_by w way.leads in
-    let one : WrotePart names (w.held way.mid) (w.held last) way.line = subst (λ ns. WrotePart ns (w.held way.mid) (w.held last) way.line) (leads_same w.names w.same way.leads) (w.part way.mid last way.line way.fails) in
+    let one : WrotePart names (w.held way.mid) (w.held last) way.line =
+    subst (λ ns. WrotePart ns (w.held way.mid) (w.held last) way.line) (leads_same w.names w.same way.leads) (w.part way.mid last way.line way.fails) in
     let text : lines_text names log ≡ front ++ line_text_of names way.line = ap (lines_text names) way.are ∙ text_push names way.before way.line in
     let long : length (front ++ line_text_of names way.line) ≡ length front + length (line_text_of names way.line) = length-append front (line_text_of names way.line) in
     subst (λ (piece : List ℕ). AppendsPrefix (w.held first) (w.held last) piece) (sym text)

@@ -72,11 +72,14 @@ stop-is field khzs wanted from known ats closed =
 -- the next is taken
 pub go-is : (field : Field) (khzs : List ℕ) (wanted from k : ℕ) → IsField field → field.ats.items ≡ ats_of field.crowd.show.now ++ map Some khzs → IsFirstOpen field from k
     → taken_from (extended_by field.crowd.show.now field.crowd.profile field.crowd.zone khzs) field.crowd.profile field.crowd.zone (suc wanted) from (drop from (channels_of field))
-    ≡ k ∷ taken_from (extended_by field.crowd.show.now field.crowd.profile field.crowd.zone (khzs ++ slice_index (channels_of field) k ∷ [])) field.crowd.profile field.crowd.zone wanted (k + 1) (drop (k + 1) (channels_of field))
+    ≡ k ∷ taken_from (extended_by field.crowd.show.now field.crowd.profile field.crowd.zone (khzs ++ slice_index (channels_of field) k ∷ [])) field.crowd.profile field.crowd.zone wanted
+    (k + 1) (drop (k + 1) (channels_of field))
 go-is field khzs wanted from k known ats first =
-    let spare : (i : ℕ) → is_spare (extended_by field.crowd.show.now field.crowd.profile field.crowd.zone khzs) field.crowd.profile field.crowd.zone (slice_index (channels_of field) i) ≡ is_open_channel field i = λ i. sym (open-is field khzs (slice_index (channels_of field) i) known ats) in
+    let spare : (i : ℕ) → is_spare (extended_by field.crowd.show.now field.crowd.profile field.crowd.zone khzs) field.crowd.profile field.crowd.zone (slice_index (channels_of field) i)
+    ≡ is_open_channel field i = λ i. sym (open-is field khzs (slice_index (channels_of field) i) known ats) in
     taken-next _ _ _ wanted (channels_of field) from k first.after first.within (λ i a b. spare i ∙ first.before i a b) (spare k ∙ first.clear)
-    ∙ ap (λ x. k ∷ taken_from x field.crowd.profile field.crowd.zone wanted (k + 1) (drop (k + 1) (channels_of field))) (grown-is field.crowd.show.now field.crowd.profile field.crowd.zone khzs (slice_index (channels_of field) k))
+    ∙ ap (λ x. k ∷ taken_from x field.crowd.profile field.crowd.zone wanted (k + 1) (drop (k + 1) (channels_of field)))
+    (grown-is field.crowd.show.now field.crowd.profile field.crowd.zone khzs (slice_index (channels_of field) k))
 
 -- the spare channels, of a field that is made for a place
 pub free-at : (field : Field) (s : Site) → site field.crowd ≡ s → IsField field → field.ats.items ≡ ats_of s.show
@@ -88,7 +91,8 @@ free-at field s e known ats =
 -- what is taken from a channel on, beside these
 abbrev pub left_of : Crowd → List ℕ → ℕ → ℕ → List ℕ
 left_of crowd ks wanted from =
-    taken_from (extended_by crowd.show.now crowd.profile crowd.zone (map (slice_index (channels_at crowd.show.now crowd.profile)) ks)) crowd.profile crowd.zone wanted from (drop from (channels_at crowd.show.now crowd.profile))
+    taken_from (extended_by crowd.show.now crowd.profile crowd.zone (map (slice_index (channels_at crowd.show.now crowd.profile)) ks)) crowd.profile crowd.zone wanted from
+    (drop from (channels_at crowd.show.now crowd.profile))
 
 -- the frequencies of a show's carriers, and of newcomers at these channels
 abbrev pub ats_with : Crowd → List ℕ → List (Option ℕ)
@@ -124,7 +128,8 @@ go-at : (field : Field) (ks : List ℕ) (wanted less from k : ℕ) → IsField f
 go-at field ks wanted less from k known ats first n =
     let at : ℕ → ℕ = slice_index (channels_of field) in
     ap (λ w. left_of field.crowd ks w from) n ∙ go-is field (map at ks) less from k known ats first
-    ∙ ap (λ zs. k ∷ taken_from (extended_by field.crowd.show.now field.crowd.profile field.crowd.zone zs) field.crowd.profile field.crowd.zone less (k + 1) (drop (k + 1) (channels_of field))) (sym (map-append at ks (k ∷ [])))
+    ∙ ap (λ zs. k ∷ taken_from (extended_by field.crowd.show.now field.crowd.profile field.crowd.zone zs) field.crowd.profile field.crowd.zone less (k + 1) (drop (k + 1) (channels_of field)))
+    (sym (map-append at ks (k ∷ [])))
 
 -- the first that is open is taken
 pub go-taken : (field : Field) (crowd : Crowd) (all ks more : List ℕ) (wanted less from k : ℕ) → field.crowd ≡ crowd → IsField field → field.ats.items ≡ ats_with crowd ks

@@ -66,7 +66,8 @@ law-from s known khzs (suc wanted) k (f ∷ fs) e =
           elim (cases_Bool (is_spare x s.profile s.zone f)) [
             | inl found ↦
                 let taken = taken_from (extended_by s.show s.profile s.zone (khzs ++ f ∷ [])) s.profile s.zone wanted (k + 1) fs in
-                ap (λ ks. analysis (extended_by s.show s.profile s.zone (khzs ++ map (slice_index chs) ks))) (taken-yes x s.profile s.zone wanted k f fs found ∙ ap (λ y. k ∷ taken_from y s.profile s.zone wanted (k + 1) fs) (grown-is s.show s.profile s.zone khzs f))
+                ap (λ ks. analysis (extended_by s.show s.profile s.zone (khzs ++ map (slice_index chs) ks)))
+                (taken-yes x s.profile s.zone wanted k f fs found ∙ ap (λ y. k ∷ taken_from y s.profile s.zone wanted (k + 1) fs) (grown-is s.show s.profile s.zone khzs f))
                 ∙ ap (λ g. analysis (extended_by s.show s.profile s.zone (khzs ++ g ∷ map (slice_index chs) taken))) (sym first)
                 ∙ ap (λ xs. analysis (extended_by s.show s.profile s.zone xs)) (sym (append_assoc khzs (f ∷ []) (map (slice_index chs) taken)))
                 ∙ law-from s known (khzs ++ f ∷ []) wanted (k + 1) fs rest
@@ -81,6 +82,7 @@ pub law : (s : Site) (count : ℕ) → IsSite s → analysis (with_channels s.sh
 law s count known =
     let chs : channels_at s.show s.profile ≡ channels known.own.channels = ap (λ o. option_map_or (λ (p : Profile). channels p.channels) o []) known.is in
     ap (λ cs. analysis (extended_by s.show s.profile s.zone (map (slice_index cs) (taken_from s.show s.profile s.zone count 0 cs)))) chs
-    ∙ ap (λ y. analysis (extended_by s.show s.profile s.zone (map (slice_index (channels known.own.channels)) (taken_from y s.profile s.zone count 0 (channels known.own.channels))))) (sym (none-added s.show s.profile s.zone))
+    ∙ ap (λ y. analysis (extended_by s.show s.profile s.zone (map (slice_index (channels known.own.channels)) (taken_from y s.profile s.zone count 0 (channels known.own.channels)))))
+    (sym (none-added s.show s.profile s.zone))
     ∙ law-from s known [] count 0 (channels known.own.channels) refl
     ∙ ap analysis (none-added s.show s.profile s.zone)

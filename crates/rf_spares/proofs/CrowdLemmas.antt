@@ -23,7 +23,8 @@ hears-by show ns a reach heard size pair more =
       | inr e ↦ λ b h. rw e (more b h)
     ]
 
-pub masks-hear : (show : ShowData) (ns reach heard : List ℕ) → ((a : ℕ) → a < most_carriers → HearsAll show ns 2 (slice_index_or ns a 0) (slice_index_or reach a 0)) → ((a : ℕ) → a < most_carriers → HearsAll show ns 3 (slice_index_or ns a 0) (slice_index_or heard a 0))
+pub masks-hear : (show : ShowData) (ns reach heard : List ℕ) → ((a : ℕ) → a < most_carriers → HearsAll show ns 2 (slice_index_or ns a 0) (slice_index_or reach a 0))
+    → ((a : ℕ) → a < most_carriers → HearsAll show ns 3 (slice_index_or ns a 0) (slice_index_or heard a 0))
     → (size a : ℕ) → a < most_carriers → HearsAll show ns size (slice_index_or ns a 0) (slice_index_or (if nat_le size 2 then reach else heard) a 0)
 masks-hear show ns reach heard pair more size a low =
     elim (cases_Bool (nat_le size 2)) [

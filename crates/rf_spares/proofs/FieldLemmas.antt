@@ -36,7 +36,8 @@ pub filter-yes : (p : ℕ → Bool) (k : ℕ) → p k ≡ true → filter p (upt
 filter-yes p k h = ap (λ n. filter p (upto n)) (omega arith) ∙ ap (filter p) (upto-suc k) ∙ filter-append p (upto k) (k ∷ []) ∙ ap (λ zs. filter p (upto k) ++ zs) (rw h refl)
 
 pub filter-no : (p : ℕ → Bool) (k : ℕ) → p k ≡ false → filter p (upto (k + 1)) ≡ filter p (upto k)
-filter-no p k h = ap (λ n. filter p (upto n)) (omega arith) ∙ ap (filter p) (upto-suc k) ∙ filter-append p (upto k) (k ∷ []) ∙ ap (λ zs. filter p (upto k) ++ zs) (rw h refl) ∙ append-nil (filter p (upto k))
+filter-no p k h = ap (λ n. filter p (upto n)) (omega arith) ∙ ap (filter p) (upto-suc k)
+    ∙ filter-append p (upto k) (k ∷ []) ∙ ap (λ zs. filter p (upto k) ++ zs) (rw h refl) ∙ append-nil (filter p (upto k))
 
 -- the channels behind one are above it
 pub ahead-next : (chs : List ℕ) (k khz reach : ℕ) → IsStrictlyIncreasing chs → slice_index chs k ≡ khz → reach ≡ khz + 1 → (j : ℕ) → k + 1 ≤ j → j < length chs → reach ≤ slice_index chs j
@@ -49,7 +50,8 @@ open-value field sweep f banned known swept spans few e =
     ap (λ b. not b && nat_le sweep.reach f) e ∙ ap (λ b. not (bans_newcomer field.crowd.show.now field.crowd.profile field.crowd.zone f) && b) (swept-is field sweep f known swept spans few)
 
 -- each channel lies between the first and the last
-pub channels-between : (chs : List ℕ) (low high k : ℕ) → IsStrictlyIncreasing chs → slice_index chs 0 ≡ low → slice_index chs (length chs - 1) ≡ high → k < length chs → (low ≤ slice_index chs k) × (slice_index chs k < low + (high - low + 1))
+pub channels-between : (chs : List ℕ) (low high k : ℕ) → IsStrictlyIncreasing chs → slice_index chs 0 ≡ low
+    → slice_index chs (length chs - 1) ≡ high → k < length chs → (low ≤ slice_index chs k) × (slice_index chs k < low + (high - low + 1))
 channels-between chs low high k h e g inside =
     let first = rising-at chs k 0 k h (omega arith) inside in
     let last = rising-at chs (length chs - 1 - k) k (length chs - 1) h (omega (arith, inside)) (omega (arith, inside)) in

@@ -22,7 +22,8 @@ fill-step arr xs n i z y e l h =
 pub map-more : {X Y : Type 0} (g : X → Y) (xs : List X) (i : ℕ) (d : X) → i < length xs → map g (take (i + 1) xs) ≡ map g (take i xs) ++ g (get_or xs i d) ∷ []
 map-more g xs i d h = ap (map g) (take_more xs i d h) ∙ map-append g (take i xs) (get_or xs i d ∷ [])
 
-pub fill-map : {X Y : Type 0} (g : X → Y) (xs : List X) (arr : List Y) (n i : ℕ) (z y : Y) (x : X) → arr ≡ map g (take i xs) ++ replicate (n - i) z → i < length xs → length xs ≤ n → x ≡ get_or xs i x → y ≡ g x
+pub fill-map : {X Y : Type 0} (g : X → Y) (xs : List X) (arr : List Y) (n i : ℕ) (z y : Y) (x : X)
+    → arr ≡ map g (take i xs) ++ replicate (n - i) z → i < length xs → length xs ≤ n → x ≡ get_or xs i x → y ≡ g x
     → set arr i y ≡ map g (take (i + 1) xs) ++ replicate (n - (i + 1)) z
 fill-map g xs arr n i z y x e h few at is =
     fill-step arr (map g (take i xs)) n i z y e (length-map (take i xs) g ∙ length-take-le i xs (omega (arith, h))) (omega (arith, h, few))

@@ -1,5 +1,6 @@
 -- A newcomer's instance, judged in the show with it and from the others alone.
-use Rattle.std.proofs.Common.{◌≡◌, ◌≢◌, ◌<◌, ◌≤◌, ◌+◌, ◌-◌, ℕ, pos, zero, suc, Bool, true, false, ◌&&◌, List, [], ◌∷◌, ◌++◌, length, map, refl, ap, sym, ◌∙◌, arith, inl, inr, get_or, unsigned_abs, unwrap_or}
+use Rattle.std.proofs.Common.{◌≡◌, ◌≢◌, ◌<◌, ◌≤◌, ◌+◌, ◌-◌, ℕ, pos, zero, suc, Bool, true, false, ◌&&◌, List, [], ◌∷◌, ◌++◌, length, map, refl, ap, sym, ◌∙◌, arith, inl, inr, get_or, unsigned_abs}
+use Rattle.std.proofs.Common.{unwrap_or}
 use Rattle.std.specs.Prelude.{Option, Some, None, nat_lt, slice_get, insert, is_some, not, replicate, if◌then◌else◌, ◌==◌}
 use Rattle.std.specs.List.{list_all}
 use Rattle.std.specs.Option.{IfSome}
@@ -67,7 +68,8 @@ order-same u role n i j few below h apart low =
           let o = other u role j h low (omega (arith, apart, e)) in
           let small = below-at n u o.at below o.low in
           let first : (m : ℕ) → get_or (insert u role m) i 0 ≡ m = λ m. ap (λ k. get_or (insert u role m) k 0) e ∙ get_or-insert_at u role m 0 h in
-          let no : (m : ℕ) → n ≤ m → nat_lt (get_or (insert u role m) i 0) (get_or (insert u role m) j 0) ≡ false = λ m le. ap (λ x. nat_lt x (get_or (insert u role m) j 0)) (first m) ∙ ap (nat_lt m) (o.is m) ∙ grind (arith, nat_tests, small, le) in
+          let no : (m : ℕ) → n ≤ m → nat_lt (get_or (insert u role m) i 0) (get_or (insert u role m) j 0) ≡ false =
+          λ m le. ap (λ x. nat_lt x (get_or (insert u role m) j 0)) (first m) ∙ ap (nat_lt m) (o.is m) ∙ grind (arith, nat_tests, small, le) in
           no n (omega arith) ∙ sym (no most_carriers few)
       | inr e ↦
           let a = other u role i h (omega (arith, apart, low)) e in
@@ -75,11 +77,13 @@ order-same u role n i j few below h apart low =
             | inl g ↦
                 let small = below-at n u a.at below a.low in
                 let last : (m : ℕ) → get_or (insert u role m) j 0 ≡ m = λ m. ap (λ k. get_or (insert u role m) k 0) g ∙ get_or-insert_at u role m 0 h in
-                let yes : (m : ℕ) → n ≤ m → nat_lt (get_or (insert u role m) i 0) (get_or (insert u role m) j 0) ≡ true = λ m le. ap (nat_lt (get_or (insert u role m) i 0)) (last m) ∙ ap (λ x. nat_lt x m) (a.is m) ∙ lt-yes (get_or u a.at 0) m (omega (arith, small, le)) in
+                let yes : (m : ℕ) → n ≤ m → nat_lt (get_or (insert u role m) i 0) (get_or (insert u role m) j 0) ≡ true =
+                λ m le. ap (nat_lt (get_or (insert u role m) i 0)) (last m) ∙ ap (λ x. nat_lt x m) (a.is m) ∙ lt-yes (get_or u a.at 0) m (omega (arith, small, le)) in
                 yes n (omega arith) ∙ sym (yes most_carriers few)
             | inr g ↦
                 let b = other u role j h low g in
-                let same : (m : ℕ) → nat_lt (get_or (insert u role m) i 0) (get_or (insert u role m) j 0) ≡ nat_lt (get_or u a.at 0) (get_or u b.at 0) = λ m. ap (λ x. nat_lt x (get_or (insert u role m) j 0)) (a.is m) ∙ ap (nat_lt (get_or u a.at 0)) (b.is m) in
+                let same : (m : ℕ) → nat_lt (get_or (insert u role m) i 0) (get_or (insert u role m) j 0) ≡ nat_lt (get_or u a.at 0) (get_or u b.at 0) =
+                λ m. ap (λ x. nat_lt x (get_or (insert u role m) j 0)) (a.is m) ∙ ap (nat_lt (get_or u a.at 0)) (b.is m) in
                 same n ∙ sym (same most_carriers)
           ]
     ]
@@ -157,7 +161,8 @@ length-one khzs f = omega (arith, length-append khzs (f ∷ []))
 place-of : (s : Site) (khzs : List ℕ) (f c : ℕ) → IsSite s → last s khzs ≤ most_carriers → c < last s khzs → Place s (khzs ++ f ∷ []) c
 place-of s khzs f c known few low = place s (khzs ++ f ∷ []) c known (omega (arith, low, length-one khzs f)) (omega (arith, low, few))
 
-pub last-is : (s : Site) (khzs : List ℕ) (f : ℕ) → slice_get (grown s khzs f).carriers (last s khzs) ≡ Some (newcomer s.show s.profile s.zone (Some (get_or (khzs ++ f ∷ []) (last s khzs - length s.show.carriers) 0)))
+pub last-is : (s : Site) (khzs : List ℕ) (f : ℕ)
+    → slice_get (grown s khzs f).carriers (last s khzs) ≡ Some (newcomer s.show s.profile s.zone (Some (get_or (khzs ++ f ∷ []) (last s khzs - length s.show.carriers) 0)))
 last-is s khzs f = high-is s (khzs ++ f ∷ []) (last s khzs) (omega arith) (omega (arith, length-one khzs f))
 
 ways : (s : Site) (khzs : List ℕ) (f : ℕ) → IsMutual s.show.zones (grown s khzs f).carriers
@@ -194,8 +199,15 @@ meets-same s khzs f size role u h =
     let inner : (a : ℕ) → list_all (M a) (insert u role n) ≡ (M a n && list_all (M a) u) = λ a. all-insert (M a) u role n in
     let each : list_all (λ a. list_all (M a) u) u ≡ list_all (λ a. list_all (λ b. meets_at s size a b) u) u =
     all-below (λ a. list_all (M a) u) (λ a. list_all (λ b. meets_at s size a b) u) n u
-    (λ a low. all-below (M a) (λ b. meets_at s size a b) n u (λ b small. place-meets s (khzs ++ f ∷ []) size a b (place-of s khzs f a h.known h.few low) (place-of s khzs f b h.known h.few small)) h.below) h.below in
-    let there : n < length (grown s khzs f).carriers = omega (arith, length-append s.show.carriers (map (λ g. newcomer s.show s.profile s.zone (Some g)) (khzs ++ f ∷ [])), length-map (khzs ++ f ∷ []) (λ g. newcomer s.show s.profile s.zone (Some g)), length-one khzs f) in
+    (λ a low. all-below (M a) (λ b. meets_at s size a b) n u
+    (λ b small. place-meets s (khzs ++ f ∷ []) size a b (place-of s khzs f a h.known h.few low) (place-of s khzs f b h.known h.few small)) h.below) h.below in
+    let there : n < length (grown s khzs f).carriers =
+    omega (
+      arith,
+      length-append s.show.carriers (map (λ g. newcomer s.show s.profile s.zone (Some g)) (khzs ++ f ∷ [])),
+      length-map (khzs ++ f ∷ []) (λ g. newcomer s.show s.profile s.zone (Some g)),
+      length-one khzs f,
+    ) in
     all-same (λ a. list_all (M a) (insert u role n)) (λ a. M a n && list_all (M a) u) (insert u role n) inner
     ∙ all-insert (λ a. M a n && list_all (M a) u) u role n
     ∙ ap (λ b. (M n n && list_all (M n) u) && b) (all-both (λ a. M a n) (λ a. list_all (M a) u) u)
@@ -221,8 +233,22 @@ on-same : (s : Site) (khzs : List ℕ) (f minute c : ℕ) → IsSite s → last 
 on-same s khzs f minute c known few low =
     let cs = (grown s khzs f).carriers in
     let p = place-of s khzs f c known few low in
-    let there : c < length cs = omega (arith, low, length-append s.show.carriers (map (λ g. newcomer s.show s.profile s.zone (Some g)) (khzs ++ f ∷ [])), length-map (khzs ++ f ∷ []) (λ g. newcomer s.show s.profile s.zone (Some g)), length-one khzs f) in
-    let room : c < length (times_of s.show) = omega (arith, low, few, length-append (map (λ d. d.times) s.show.carriers) (replicate (most_carriers - length (map (λ (d : Carrier). d.times) s.show.carriers)) []), length-replicate (most_carriers - length (map (λ (d : Carrier). d.times) s.show.carriers)) nowhere, length-map s.show.carriers (λ (d : Carrier). d.times)) in
+    let there : c < length cs = omega (
+      arith,
+      low,
+      length-append s.show.carriers (map (λ g. newcomer s.show s.profile s.zone (Some g)) (khzs ++ f ∷ [])),
+      length-map (khzs ++ f ∷ []) (λ g. newcomer s.show s.profile s.zone (Some g)),
+      length-one khzs f,
+    ) in
+    let room : c < length (times_of s.show) =
+    omega (
+      arith,
+      low,
+      few,
+      length-append (map (λ d. d.times) s.show.carriers) (replicate (most_carriers - length (map (λ (d : Carrier). d.times) s.show.carriers)) []),
+      length-replicate (most_carriers - length (map (λ (d : Carrier). d.times) s.show.carriers)) nowhere,
+      length-map s.show.carriers (λ (d : Carrier). d.times),
+    ) in
     on_there (map (λ d. d.times) cs) minute c (omega (arith, there, length-map cs (λ (d : Carrier). d.times)))
     ∙ ap (λ t. is_on t minute) (get_or-map (λ (d : Carrier). d.times) cs c none [] there ∙ ap (λ (d : Carrier). d.times) (get_or_from_slice_get cs c p.carrier none p.is) ∙ p.times)
     ∙ sym (on_there (times_of s.show) minute c room)
@@ -230,7 +256,13 @@ on-same s khzs f minute c known few low =
 on-last : (s : Site) (khzs : List ℕ) (f minute : ℕ) → on_at (map (λ d. d.times) (grown s khzs f).carriers) minute (last s khzs) ≡ true
 on-last s khzs f minute =
     let cs = (grown s khzs f).carriers in
-    let there : last s khzs < length cs = omega (arith, length-append s.show.carriers (map (λ g. newcomer s.show s.profile s.zone (Some g)) (khzs ++ f ∷ [])), length-map (khzs ++ f ∷ []) (λ g. newcomer s.show s.profile s.zone (Some g)), length-one khzs f) in
+    let there : last s khzs < length cs =
+    omega (
+      arith,
+      length-append s.show.carriers (map (λ g. newcomer s.show s.profile s.zone (Some g)) (khzs ++ f ∷ [])),
+      length-map (khzs ++ f ∷ []) (λ g. newcomer s.show s.profile s.zone (Some g)),
+      length-one khzs f,
+    ) in
     on_there (map (λ d. d.times) cs) minute (last s khzs) (omega (arith, there, length-map cs (λ (d : Carrier). d.times)))
     ∙ ap (λ t. is_on t minute) (get_or-map (λ (d : Carrier). d.times) cs (last s khzs) none [] there ∙ ap (λ (d : Carrier). d.times) (get_or_from_slice_get cs (last s khzs) _ none (last-is s khzs f)))
 
@@ -300,7 +332,8 @@ margin-same kind s khzs f role u h low size = victim-same s khzs f role (roles_o
 
 -- ---- the newcomer's instance
 
-pub harm-is : (s : Site) (khzs : List ℕ) (f : ℕ) (kind : Kind) (role : ℕ) (u : List ℕ) → IsSite s → last s khzs ≤ most_carriers → are_below (last s khzs) u ≡ true → role ≤ length u → length u + 1 ≡ roles_of kind
+pub harm-is : (s : Site) (khzs : List ℕ) (f : ℕ) (kind : Kind) (role : ℕ) (u : List ℕ) → IsSite s
+    → last s khzs ≤ most_carriers → are_below (last s khzs) u ≡ true → role ≤ length u → length u + 1 ≡ roles_of kind
     → is_broken (grown s khzs f) (ats_of (grown s khzs f)) kind (insert u role (last s khzs)) ≡ harm s (ats_of s.show ++ map Some khzs) kind role u f
 unfolding is_broken is_candidate is_instance harm admits
 harm-is s khzs f kind role u known few below low size =
@@ -312,8 +345,10 @@ harm-is s khzs f kind role u known few below low size =
     let e1 : distance_of (ats ++ Some f ∷ []) kind (insert u role (last s khzs)) ≡ unsigned_abs (form_with (coefficients_of kind) role (khzs_in ats u) (pos f)) =
     ap (λ m. distance_of (ats ++ Some f ∷ []) kind (insert u role m)) (sym n) ∙ distance-same ats kind f role u small in
     let e2 = margin-same kind s khzs f role u set low size in
-    let e3 : are_assigned (ats ++ Some f ∷ []) (insert u role (last s khzs)) ≡ are_assigned ats u = ap (λ m. are_assigned (ats ++ Some f ∷ []) (insert u role m)) (sym n) ∙ assigned-same ats f role u small in
+    let e3 : are_assigned (ats ++ Some f ∷ []) (insert u role (last s khzs)) ≡ are_assigned ats u =
+    ap (λ m. are_assigned (ats ++ Some f ∷ []) (insert u role m)) (sym n) ∙ assigned-same ats f role u small in
     let e4 : is_distinct (insert u role (last s khzs)) ≡ is_distinct u = distinct-insert (last s khzs) u role ∙ ap (λ b. not b && is_distinct u) (below-none (last s khzs) u below) in
-    let e5 : is_in_order kind (insert u role (last s khzs)) ≡ is_in_order kind (insert u role most_carriers) = in-order-by (order_of kind) u role (last s khzs) (roles_of kind) (orders-fit kind) size few below low in
+    let e5 : is_in_order kind (insert u role (last s khzs)) ≡ is_in_order kind (insert u role most_carriers) =
+    in-order-by (order_of kind) u role (last s khzs) (roles_of kind) (orders-fit kind) size few below low in
     let e6 = joined-same s khzs f (roles_of kind) role u set in
     rw (e0, e1, e2, e3, e4, e5, e6) refl

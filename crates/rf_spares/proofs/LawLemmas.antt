@@ -73,7 +73,8 @@ none-found p k n h =
 
 -- of the lists with one carrier more those without it are picked as before
 pub picked-same : {Z : Type 0} (f g : List ℕ → Z) (p q : List ℕ → Bool) (n k : ℕ)
-    → ((t : List ℕ) → length t ≡ k → are_below n t ≡ true → p t ≡ q t) → ((t : List ℕ) → length t ≡ k → are_below n t ≡ true → f t ≡ g t) → ((t : List ℕ) → length t ≡ k → are_below (suc n) t ≡ true → has_role n t ≡ true → p t ≡ false)
+    → ((t : List ℕ) → length t ≡ k → are_below n t ≡ true → p t ≡ q t) → ((t : List ℕ) → length t ≡ k → are_below n t ≡ true → f t ≡ g t)
+    → ((t : List ℕ) → length t ≡ k → are_below (suc n) t ≡ true → has_role n t ≡ true → p t ≡ false)
     → map f (filter p (tuples k (upto (suc n)))) ≡ map g (filter q (tuples k (upto n)))
 unfolding tuples
 picked-same f g p q n zero same made none =
@@ -86,10 +87,14 @@ picked-same f g p q n (suc k) same made none =
     let more = upto (suc n) in
     let F : ℕ → _ = λ x. map (λ u. f (x ∷ u)) (filter (λ u. p (x ∷ u)) (tuples k more)) in
     let G : ℕ → _ = λ x. map (λ u. g (x ∷ u)) (filter (λ u. q (x ∷ u)) (tuples k (upto n))) in
-    let left : map f (filter p (flat_map (λ x. map (λ t. x ∷ t) (tuples k more)) more)) ≡ flat_map F more = picked-flat f p (λ x. map (λ t. x ∷ t) (tuples k more)) more ∙ flat-each (λ x. map f (filter p (map (λ t. x ∷ t) (tuples k more)))) F more (λ x. picked-cons f p x (tuples k more)) in
-    let right : map g (filter q (flat_map (λ x. map (λ t. x ∷ t) (tuples k (upto n))) (upto n))) ≡ flat_map G (upto n) = picked-flat g q (λ x. map (λ t. x ∷ t) (tuples k (upto n))) (upto n) ∙ flat-each (λ x. map g (filter q (map (λ t. x ∷ t) (tuples k (upto n))))) G (upto n) (λ x. picked-cons g q x (tuples k (upto n))) in
+    let left : map f (filter p (flat_map (λ x. map (λ t. x ∷ t) (tuples k more)) more)) ≡ flat_map F more =
+    picked-flat f p (λ x. map (λ t. x ∷ t) (tuples k more)) more ∙ flat-each (λ x. map f (filter p (map (λ t. x ∷ t) (tuples k more)))) F more (λ x. picked-cons f p x (tuples k more)) in
+    let right : map g (filter q (flat_map (λ x. map (λ t. x ∷ t) (tuples k (upto n))) (upto n))) ≡ flat_map G (upto n) =
+    picked-flat g q (λ x. map (λ t. x ∷ t) (tuples k (upto n))) (upto n)
+    ∙ flat-each (λ x. map g (filter q (map (λ t. x ∷ t) (tuples k (upto n))))) G (upto n) (λ x. picked-cons g q x (tuples k (upto n))) in
     let last : F n ≡ [] = picked-none (λ u. f (n ∷ u)) (λ u. p (n ∷ u)) (tuples k more)
-    (none-found (λ u. p (n ∷ u)) k (suc n) (λ u e below. none (n ∷ u) (ap suc e) (and-both (nat_lt n (suc n)) (are_below (suc n) u) (lt-yes n (suc n) (omega arith)) below) (ap (λ b. b || has_role n u) (self n)))) in
+    (none-found (λ u. p (n ∷ u)) k (suc n)
+    (λ u e below. none (n ∷ u) (ap suc e) (and-both (nat_lt n (suc n)) (are_below (suc n) u) (lt-yes n (suc n) (omega arith)) below) (ap (λ b. b || has_role n u) (self n)))) in
     let each : (x : ℕ) → x < n → F x ≡ G x = λ x low.
     picked-same (λ u. f (x ∷ u)) (λ u. g (x ∷ u)) (λ u. p (x ∷ u)) (λ u. q (x ∷ u)) n k
     (λ t e below. same (x ∷ t) (ap suc e) (and-both (nat_lt x n) (are_below n t) (lt-yes x n low) below))
@@ -136,7 +141,8 @@ module _ (show : ShowData) (d : Carrier) (f : ℕ) (set-at : d.at ≡ Some f) wh
   unfolding is_banned
   same-banned c g h =
       ap (λ o. option_map_or (λ (x : Carrier). bans_touch show.bans x.zone (half_of more c) g || scans_touch show.scans x.zone (half_of more c) g) o false) (same-carrier c h)
-      ∙ ap (λ q. option_map_or (λ (x : Carrier). bans_touch show.bans x.zone (option_map_or (λ p. p.half) q 0) g || scans_touch show.scans x.zone (option_map_or (λ p. p.half) q 0) g) (slice_get show.carriers c) false) (same-profile c h)
+      ∙ ap (λ q. option_map_or (λ (x : Carrier). bans_touch show.bans x.zone (option_map_or (λ p. p.half) q 0) g || scans_touch show.scans x.zone (option_map_or (λ p. p.half) q 0) g)
+      (slice_get show.carriers c) false) (same-profile c h)
 
   same-asked : (kind : Kind) (c : ℕ) → c < n → asked more kind c ≡ asked show kind c
   same-asked kind c h = ap (λ q. option_map_or (λ p. profiles.margin_of p kind) q 0) (same-profile c h)
@@ -210,7 +216,9 @@ module _ (show : ShowData) (d : Carrier) (f : ℕ) (set-at : d.at ≡ Some f) wh
       ∙ picked-same _ _ _ _ n (roles_of kind) (same-broken kind) (same-conflict kind)
       (λ t e below has.
       elim (cases_Bool (is_broken more (ats_of more) kind t)) [
-        | inl found ↦ absurd (true≢false (sym (tuples-in_as (λ u. has_role n u && is_broken more (ats_of more) kind u) (length more.carriers) (roles_of kind) t e (ap (λ m. are_below m t) long-carriers ∙ below) (and-both (has_role n t) _ has found)) ∙ none))
+        | inl found ↦ absurd (true≢false
+            (sym (tuples-in_as (λ u. has_role n u && is_broken more (ats_of more) kind u) (length more.carriers)
+            (roles_of kind) t e (ap (λ m. are_below m t) long-carriers ∙ below) (and-both (has_role n t) _ has found)) ∙ none))
         | inr other ↦ other
       ])
       ∙ sym (ap (λ m. map (conflict_of show (ats_of show) kind) (filter (is_broken show (ats_of show) kind) (tuples (roles_of kind) (upto m)))) old)
@@ -242,7 +250,8 @@ module _ (show : ShowData) (d : Carrier) (f : ℕ) (set-at : d.at ≡ Some f) wh
       ap (map Banned) (ap (λ m. filter (λ c. stands_banned more c (at_in (ats_of more) c)) (upto m)) long-carriers
       ∙ ap (filter (λ c. stands_banned more c (at_in (ats_of more) c))) (upto-suc n)
       ∙ filter-append (λ c. stands_banned more c (at_in (ats_of more) c)) (upto n) (n ∷ [])
-      ∙ ap (λ zs. filter (λ c. stands_banned more c (at_in (ats_of more) c)) (upto n) ++ zs) (last-out (λ c. stands_banned more c (at_in (ats_of more) c)) (ap (λ o. stands_banned more n o) at-end ∙ free))
+      ∙ ap (λ zs. filter (λ c. stands_banned more c (at_in (ats_of more) c)) (upto n) ++ zs)
+      (last-out (λ c. stands_banned more c (at_in (ats_of more) c)) (ap (λ o. stands_banned more n o) at-end ∙ free))
       ∙ append-nil _ ∙ filter-same _ _ n (λ c h. ap (λ o. stands_banned more c o) (same-at c h) ∙ stands (at_in (ats_of show) c) c h))
 
   -- the analysis stays

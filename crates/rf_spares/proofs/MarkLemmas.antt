@@ -43,7 +43,8 @@ mark-one xs low lo hi f place y d e g h span =
     ∙ ap (λ b. list_any (nat_lt f) (take (f + 1 - low) xs) || (b && nat_lt f hi)) first
 
 -- one place more is looked through
-pub reach-more : (xs : List ℕ) (i r y d : ℕ) → i < length xs → y ≡ max r (get_or xs i d) → ((x : ℕ) → nat_lt x r ≡ list_any (nat_lt x) (take i xs)) → (x : ℕ) → nat_lt x y ≡ list_any (nat_lt x) (take (i + 1) xs)
+pub reach-more : (xs : List ℕ) (i r y d : ℕ) → i < length xs → y ≡ max r (get_or xs i d)
+    → ((x : ℕ) → nat_lt x r ≡ list_any (nat_lt x) (take i xs)) → (x : ℕ) → nat_lt x y ≡ list_any (nat_lt x) (take (i + 1) xs)
 reach-more xs i r y d h e known x =
     ap (nat_lt x) e ∙ lt-max x r (get_or xs i d) ∙ ap (λ b. b || nat_lt x (get_or xs i d)) (known x)
     ∙ ap (λ b. list_any (nat_lt x) (take i xs) || b) (sym (or-false (nat_lt x (get_or xs i d))))

@@ -1,5 +1,6 @@
 -- The runs of neighbours that pass a test.
-use Rattle.std.proofs.Common.{◌≡◌, add-zero, zero-add, get_or, length-append, take, ◌<◌, ◌≤◌, ◌+◌, ◌-◌, ◌++◌, ◌∙◌, ℕ, zero, suc, List, [], ◌∷◌, Bool, true, false, not, length, append-nil, append_assoc, inl, inr, subst, sym, ap, arith, refl}
+use Rattle.std.proofs.Common.{◌≡◌, add-zero, zero-add, get_or, length-append, take, ◌<◌, ◌≤◌, ◌+◌, ◌-◌, ◌++◌, ◌∙◌, ℕ, zero, suc, List, [], ◌∷◌, Bool, true, false, not, length, append-nil}
+use Rattle.std.proofs.Common.{append_assoc, inl, inr, subst, sym, ap, arith, refl}
 use Rattle.std.specs.Prelude.{◌==◌, codes, decimal, string_bytes, filter, slice_get, slice_index, Some}
 use Rattle.std.specs.declared.alloc.Global.{Global}
 use Rattle.std.specs.Prelude.{String}
@@ -217,7 +218,8 @@ answer_is ranges answer flags start first second third all same a b c d e =
     let many = line_of (codes "channels" ∷ decimal (length answer.free) ∷ []) in
     let taken = flat_map (take_line ranges) answer.taken in
     let number = line_of (codes "taken" ∷ decimal (length answer.taken) ∷ []) in
-    let runs : first ≡ free = b ∙ ap (λ zs. zs ++ flat_map (run_line ranges) (runs_in (flag_at flags) ranges)) a ∙ ap (flat_map (run_line ranges)) (runs_in_same (flag_at flags) (is_among answer.free) ranges same) in
+    let runs : first ≡ free = b ∙ ap (λ zs. zs ++ flat_map (run_line ranges) (runs_in (flag_at flags) ranges)) a
+    ∙ ap (flat_map (run_line ranges)) (runs_in_same (flag_at flags) (is_among answer.free) ranges same) in
     let counted : second ≡ first ++ many = c ∙ ap (λ zs. first ++ (codes "channels " ++ (zs ++ 10 ∷ []))) (sym (append-nil (decimal (length answer.free)))) in
     let ended : all ≡ third ++ number = e ∙ ap (λ zs. third ++ (codes "taken " ++ (zs ++ 10 ∷ []))) (sym (append-nil (decimal (length answer.taken)))) in
     ended ∙ ap (λ zs. zs ++ number) (d ∙ ap (λ zs. zs ++ taken) (counted ∙ ap (λ zs. zs ++ many) runs))

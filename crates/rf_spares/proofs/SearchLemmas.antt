@@ -55,7 +55,8 @@ any-front q m (suc n) le h =
 
 -- ---- others by others
 
-pub harms-last : (s : Site) (ats : List (Option ℕ)) (must : Option ℕ) (kind : Kind) (role : ℕ) (t : List ℕ) (k f : ℕ) → k ≡ 0 → harms_from s ats must kind role t k f ≡ (wants must t && harm s ats kind role t f)
+pub harms-last : (s : Site) (ats : List (Option ℕ)) (must : Option ℕ) (kind : Kind) (role : ℕ) (t : List ℕ) (k f : ℕ)
+    → k ≡ 0 → harms_from s ats must kind role t k f ≡ (wants must t && harm s ats kind role t f)
 harms-last s ats must kind role t k f e =
     ap (λ j. harms_from s ats must kind role t j f) e ∙ any-empty (λ u. wants must (t ++ u) && harm s ats kind role (t ++ u) f) (upto (length ats))
     ∙ ap (λ u. wants must u && harm s ats kind role u f) (append-nil t)

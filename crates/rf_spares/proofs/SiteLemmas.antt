@@ -110,11 +110,13 @@ place-low s khzs c h =
     record {
       carrier = d;
       is = low-is s khzs c h;
-      zone = sym (filled-low (map (λ x. zone_number s.show.zones x.zone) cs) (own_number s.show s.zone) 0 c (omega (arith, h, length-map cs (λ x. zone_number s.show.zones x.zone))) ∙ get_or-map (λ (x : Carrier). zone_number s.show.zones x.zone) cs c none 0 h);
+      zone = sym (filled-low (map (λ x. zone_number s.show.zones x.zone) cs) (own_number s.show s.zone) 0 c (omega (arith, h, length-map cs (λ x. zone_number s.show.zones x.zone)))
+          ∙ get_or-map (λ (x : Carrier). zone_number s.show.zones x.zone) cs c none 0 h);
       times = sym (filled-low (map (λ x. x.times) cs) [] [] c (omega (arith, h, length-map cs (λ x. x.times))) ∙ get_or-map (λ (x : Carrier). x.times) cs c none [] h);
       needs = λ kind.
           asked-by (extended_by s.show s.profile s.zone khzs) kind c d (find (is_profile d.profile) s.show.profiles) (low-is s khzs c h) refl
-          ∙ sym (filled-low (map (asked s.show kind) (upto (length cs))) (asked_at s.show s.profile kind) 0 c (omega (arith, h, length-map (upto (length cs)) (asked s.show kind), length-upto (length cs)))
+          ∙ sym (filled-low (map (asked s.show kind) (upto (length cs))) (asked_at s.show s.profile kind) 0 c
+          (omega (arith, h, length-map (upto (length cs)) (asked s.show kind), length-upto (length cs)))
           ∙ get_or-map (asked s.show kind) (upto (length cs)) c 0 0 (omega (arith, h, length-upto (length cs)))
           ∙ ap (asked s.show kind) (get_or-upto (length cs) c 0 h)
           ∙ asked-by s.show kind c d (find (is_profile d.profile) s.show.profiles) (slice_get-get_or cs c none h) refl);
@@ -135,7 +137,9 @@ place-high s khzs c p shown e low high few =
       is = high-is s khzs c low high;
       zone = sym (filled-high (map (λ x. zone_number s.show.zones x.zone) cs) (own_number s.show s.zone) 0 c (omega (arith, low, length-map cs (λ x. zone_number s.show.zones x.zone))) few);
       times = sym (filled-high (map (λ x. x.times) cs) [] [] c (omega (arith, low, length-map cs (λ x. x.times))) few);
-      needs = λ kind. own-asked s khzs kind c p shown e low high ∙ sym (filled-high (map (asked s.show kind) (upto (length cs))) (asked_at s.show s.profile kind) 0 c (omega (arith, low, length-map (upto (length cs)) (asked s.show kind), length-upto (length cs))) few);
+      needs = λ kind. own-asked s khzs kind c p shown e low high
+          ∙ sym (filled-high (map (asked s.show kind) (upto (length cs))) (asked_at s.show s.profile kind) 0 c
+          (omega (arith, low, length-map (upto (length cs)) (asked s.show kind), length-upto (length cs))) few);
     }
 
 -- what is known of a site

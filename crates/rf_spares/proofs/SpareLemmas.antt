@@ -34,7 +34,8 @@ banned-is s khzs f known =
     ap (λ o. option_map_or (λ (p : Profile). p.half) (option_and_then (λ (c : Carrier). find (is_profile c.profile) s.show.profiles) o) 0) (last-is s khzs f)
     ∙ ap (λ o. option_map_or (λ (p : Profile). p.half) o 0) (own-profile s.show s.profile known.own known.shown known.is)
     ∙ sym (ap (λ o. option_map_or (λ (p : Profile). p.half) o 0) known.is) in
-    ap (λ o. option_map_or (λ (c : Carrier). bans_touch s.show.bans c.zone (half_of (grown s khzs f) (last s khzs)) f || scans_touch s.show.scans c.zone (half_of (grown s khzs f) (last s khzs)) f) o false) (last-is s khzs f)
+    ap (λ o. option_map_or (λ (c : Carrier). bans_touch s.show.bans c.zone (half_of (grown s khzs f) (last s khzs)) f || scans_touch s.show.scans c.zone
+    (half_of (grown s khzs f) (last s khzs)) f) o false) (last-is s khzs f)
     ∙ ap (λ h. bans_touch s.show.bans (zone_name s.show s.zone) h f || scans_touch s.show.scans (zone_name s.show s.zone) h f) half
 
 -- a frequency is spare in the show with newcomers where it isn't banned and nothing is harmed
@@ -44,7 +45,8 @@ unfolding is_spare
 spare-is s khzs f known few =
     let n = length-with s khzs in
     let e = grown-is s.show s.profile s.zone khzs f in
-    ap (λ m. not (is_banned (extended (extended_by s.show s.profile s.zone khzs) s.profile s.zone f) m f) && not (breaks_with (extended (extended_by s.show s.profile s.zone khzs) s.profile s.zone f) m)) n
+    ap (λ m. not (is_banned (extended (extended_by s.show s.profile s.zone khzs) s.profile s.zone f) m f) && not
+    (breaks_with (extended (extended_by s.show s.profile s.zone khzs) s.profile s.zone f) m)) n
     ∙ ap (λ x. not (is_banned x (last s khzs) f) && not (breaks_with x (last s khzs))) e
     ∙ ap (λ b. not b && not (breaks_with (grown s khzs f) (last s khzs))) (banned-is s khzs f known)
     ∙ ap (λ b. not (bans_newcomer s.show s.profile s.zone f) && not b) (breaks-is s khzs f known few)

@@ -18,10 +18,16 @@ pub form-bound : (cs : List ℤ) (fs : List ℕ) → AllSmall cs → AreFrequenc
 form-bound [] fs small freqs = omega arith
 form-bound (c ∷ cs) [] small freqs = omega arith
 form-bound (c ∷ cs) (f ∷ fs) small freqs =
-    omega (arith, abs-add (c *ℤ pos f) (form cs (map pos fs)), abs-mul c f (small 0 c (omega arith)).1 (freqs 0 f (omega arith)), form-bound cs fs (λ k d h. small (suc k) d (omega arith)) (λ k d h. freqs (suc k) d (omega arith)))
+    omega (
+      arith,
+      abs-add (c *ℤ pos f) (form cs (map pos fs)),
+      abs-mul c f (small 0 c (omega arith)).1 (freqs 0 f (omega arith)),
+      form-bound cs fs (λ k d h. small (suc k) d (omega arith)) (λ k d h. freqs (suc k) d (omega arith)),
+    )
 
 -- one role more
-pub form-more : (cs : List ℤ) (fs : List ℕ) (i : ℕ) (c : ℤ) (f : ℕ) → i < length cs → i < length fs → form (take (suc i) cs) (map pos (take (suc i) fs)) ≡ form (take i cs) (map pos (take i fs)) +ℤ (get_or cs i c *ℤ pos (get_or fs i f))
+pub form-more : (cs : List ℤ) (fs : List ℕ) (i : ℕ) (c : ℤ) (f : ℕ) → i < length cs → i < length fs →
+    form (take (suc i) cs) (map pos (take (suc i) fs)) ≡ form (take i cs) (map pos (take i fs)) +ℤ (get_or cs i c *ℤ pos (get_or fs i f))
 form-more [] fs i c f p q = absurd (omega arith)
 form-more (a ∷ cs) [] i c f p q = absurd (omega arith)
 form-more (a ∷ cs) (b ∷ fs) zero c f p q = omega (arith, ints)
@@ -30,12 +36,14 @@ form-more (a ∷ cs) (b ∷ fs) (suc i) c f p q =
     omega (arith, ints, e)
 
 -- the form with x in one role: its multiple times x, and the forms of the other roles
-pub form-insert : (cs : List ℤ) (fs : List ℕ) (role : ℕ) (c x : ℤ) → role < length cs → length fs + 1 ≡ length cs → form cs (insert (map pos fs) role x) ≡ (get_or cs role c *ℤ x) +ℤ (form (take role cs) (map pos (take role fs)) +ℤ form (drop (suc role) cs) (map pos (drop role fs)))
+pub form-insert : (cs : List ℤ) (fs : List ℕ) (role : ℕ) (c x : ℤ) → role < length cs → length fs + 1 ≡ length cs →
+    form cs (insert (map pos fs) role x) ≡ (get_or cs role c *ℤ x) +ℤ (form (take role cs) (map pos (take role fs)) +ℤ form (drop (suc role) cs) (map pos (drop role fs)))
 form-insert [] fs role c x p q = absurd (omega arith)
 form-insert (a ∷ cs) fs zero c x p q = omega (arith, ints)
 form-insert (a ∷ cs) [] (suc role) c x p q = absurd (omega arith)
 form-insert (a ∷ cs) (f ∷ fs) (suc role) c x p q =
-    let e : form cs (insert (map pos fs) role x) ≡ (get_or cs role c *ℤ x) +ℤ (form (take role cs) (map pos (take role fs)) +ℤ form (drop (suc role) cs) (map pos (drop role fs))) = form-insert cs fs role c x (omega arith) (omega arith) in
+    let e : form cs (insert (map pos fs) role x) ≡ (get_or cs role c *ℤ x) +ℤ (form (take role cs) (map pos (take role fs)) +ℤ form (drop (suc role) cs) (map pos (drop role fs))) =
+    form-insert cs fs role c x (omega arith) (omega arith) in
     omega (arith, ints, e)
 
 -- the form over the first roles is small too

@@ -42,7 +42,8 @@ abbrev pub Near : ℕ → ℤ → ℕ → ℤ → Type 0
 Near n centre m x = unsigned_abs ((pos n *ℤ x) -ℤ centre) < m
 
 -- the numbers whose multiple is near the centre are those between two quotients
-pub near-between : (n : ℕ) (centre : ℤ) (m : ℕ) (x least greatest : ℤ) → 0 < n → least ≡ int_div_euclid (centre -ℤ pos m +ℤ pos n) (pos n) → greatest ≡ int_div_euclid (centre +ℤ pos m -ℤ pos 1) (pos n) → Near n centre m x ↔ ((least ≤ℤ x) × (x ≤ℤ greatest))
+pub near-between : (n : ℕ) (centre : ℤ) (m : ℕ) (x least greatest : ℤ) → 0 < n → least ≡ int_div_euclid (centre -ℤ pos m +ℤ pos n) (pos n) →
+    greatest ≡ int_div_euclid (centre +ℤ pos m -ℤ pos 1) (pos n) → Near n centre m x ↔ ((least ≤ℤ x) × (x ≤ℤ greatest))
 near-between n centre m x least greatest h e f =
     let low : (((x +ℤ pos 1) ≤ℤ least) ↔ ((pos n *ℤ (x +ℤ pos 1)) ≤ℤ (centre -ℤ pos m +ℤ pos n))) = rw e (le-floor n (centre -ℤ pos m +ℤ pos n) (x +ℤ pos 1) h) in
     let high : ((x ≤ℤ greatest) ↔ ((pos n *ℤ x) ≤ℤ (centre +ℤ pos m -ℤ pos 1))) = rw f (le-floor n (centre +ℤ pos m -ℤ pos 1) x h) in
@@ -96,7 +97,9 @@ near-ends c rest m least greatest x h =
     (λ p. b.0 (a.0 p), λ p. a.1 (b.1 p))
 
 -- what the code computes, without its conversions
-pub low-is : (centre margin step r : ℤ) (m n : ℕ) → unsigned_abs centre ≤ 1280000000 → margin ≡ pos m → step ≡ pos n → m < 2 ^ 32 → n ≤ 8 → r ≡ int_div_euclid (to_z w64 (of_z w64 (to_z w64 (of_z w64 (centre -ℤ to_z w64 (of_z w64 margin))) +ℤ to_z w64 (of_z w64 step)))) (to_z w64 (of_z w64 step)) → r ≡ int_div_euclid (centre -ℤ pos m +ℤ pos n) (pos n)
+pub low-is : (centre margin step r : ℤ) (m n : ℕ) → unsigned_abs centre ≤ 1280000000 → margin ≡ pos m → step ≡ pos n → m < 2 ^ 32 → n ≤ 8 →
+    r ≡ int_div_euclid (to_z w64 (of_z w64 (to_z w64 (of_z w64 (centre -ℤ to_z w64 (of_z w64 margin))) +ℤ to_z w64 (of_z w64 step)))) (to_z w64 (of_z w64 step)) →
+    r ≡ int_div_euclid (centre -ℤ pos m +ℤ pos n) (pos n)
 low-is centre margin step r m n hc em en hm hn e =
     let a : to_z w64 (of_z w64 margin) ≡ pos m = told margin (omega (arith, ap unsigned_abs em, hm)) ∙ em in
     let b : to_z w64 (of_z w64 step) ≡ pos n = told step (omega (arith, ap unsigned_abs en, hn)) ∙ en in
@@ -104,7 +107,8 @@ low-is centre margin step r m n hc em en hm hn e =
     let q : to_z w64 (of_z w64 (centre -ℤ pos m +ℤ pos n)) ≡ centre -ℤ pos m +ℤ pos n = told (centre -ℤ pos m +ℤ pos n) (omega (arith, ints, hc, hm, hn)) in
     e ∙ rw (a, b, p, q)
 
-pub high-is : (centre margin step r : ℤ) (m n : ℕ) → unsigned_abs centre ≤ 1280000000 → margin ≡ pos m → step ≡ pos n → m < 2 ^ 32 → n ≤ 8 → r ≡ int_div_euclid (to_z w64 (of_z w64 (to_z w64 (of_z w64 (centre +ℤ to_z w64 (of_z w64 margin))) -ℤ pos 1))) (to_z w64 (of_z w64 step)) → r ≡ int_div_euclid (centre +ℤ pos m -ℤ pos 1) (pos n)
+pub high-is : (centre margin step r : ℤ) (m n : ℕ) → unsigned_abs centre ≤ 1280000000 → margin ≡ pos m → step ≡ pos n → m < 2 ^ 32 → n ≤ 8 →
+    r ≡ int_div_euclid (to_z w64 (of_z w64 (to_z w64 (of_z w64 (centre +ℤ to_z w64 (of_z w64 margin))) -ℤ pos 1))) (to_z w64 (of_z w64 step)) → r ≡ int_div_euclid (centre +ℤ pos m -ℤ pos 1) (pos n)
 high-is centre margin step r m n hc em en hm hn e =
     let a : to_z w64 (of_z w64 margin) ≡ pos m = told margin (omega (arith, ap unsigned_abs em, hm)) ∙ em in
     let b : to_z w64 (of_z w64 step) ≡ pos n = told step (omega (arith, ap unsigned_abs en, hn)) ∙ en in

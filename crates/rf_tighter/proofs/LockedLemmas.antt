@@ -49,7 +49,8 @@ times-locked : (place : ℕ) (keep : ℕ → Bool) (cs : List Carrier) → map (
 times-locked place keep [] = refl
 times-locked place keep (x ∷ xs) = ap (λ ts. x.times ∷ ts) (times-locked (place + 1) keep xs)
 
-map_or-locked : {X : Type 0} (f : Carrier → X) (z : X) (keep : Bool) → ((c : Carrier) → f (relocked keep c) ≡ f c) → (o : Option Carrier) → option_map_or f (relocked_one keep o) z ≡ option_map_or f o z
+map_or-locked : {X : Type 0} (f : Carrier → X) (z : X) (keep : Bool) → ((c : Carrier) → f (relocked keep c) ≡ f c)
+    → (o : Option Carrier) → option_map_or f (relocked_one keep o) z ≡ option_map_or f o z
 map_or-locked f z keep same None = refl
 map_or-locked f z keep same (Some c) = same c
 

@@ -72,7 +72,8 @@ half-raised show d c =
     ap (λ o. option_map_or (λ (p : Profile). p.half) o 0) (profile-raised show d c)
     ∙ map_or-wider (λ (p : Profile). p.half) 0 d (λ p. refl) (profile_of show c)
 
-channel-wider : (d k : ℕ) (o : Option Profile) → option_and_then (λ (p : Profile). slice_get (channels p.channels) k) (wider_one d o) ≡ option_and_then (λ (p : Profile). slice_get (channels p.channels) k) o
+channel-wider : (d k : ℕ) (o : Option Profile)
+    → option_and_then (λ (p : Profile). slice_get (channels p.channels) k) (wider_one d o) ≡ option_and_then (λ (p : Profile). slice_get (channels p.channels) k) o
 channel-wider d k None = refl
 channel-wider d k (Some p) = refl
 

@@ -1,6 +1,7 @@
 use Rattle.std.proofs.Common.{◌≡◌, ℕ, suc, zero, true, ◌+◌, ◌-◌, ◌<◌, ◌≤◌, List, [], ◌∷◌, ◌++◌, length, get_or, set, take, drop, replicate, refl, ap, sym, ◌∙◌, append_assoc, arith, length-append}
 use Rattle.std.specs.List.{list_all}
-use Rattle.std.proofs.lemmas.List.{length-set, set-set, length-take-le, length-replicate, replicate-append-replicate, set-append_left, take_at, take_more, take_more_set, take-append-drop, take-set, length_push, take-take}
+use Rattle.std.proofs.lemmas.List.{length-set, set-set, length-take-le, length-replicate, replicate-append-replicate, set-append_left, take_at, take_more, take_more_set, take-append-drop, take-set}
+use Rattle.std.proofs.lemmas.List.{length_push, take-take}
 use Rattle.rf_zones.specs.Couplings.{is_apart}
 use Rattle.rf_zones.specs.Filled.{filled_to}
 use Rattle.rf_zones.specs.declared.coupling.Coupling.{Coupling}
@@ -108,7 +109,8 @@ filled-next room len d xs size within =
 
 -- the cells after the last is taken away
 pub popped_cells : {X : Type 0} (room len : ℕ) (d : X) (cells : List X) → filled_to room d (take (len + 1) cells) ≡ cells → length (take (len + 1) cells) ≡ len + 1 → len + 1 ≤ room →
-    (filled_to room d (take len (set cells len d)) ≡ set cells len d) × (length (take len (set cells len d)) ≡ len) × ((e : X) → take (len + 1) cells ≡ take len (set cells len d) ++ get_or cells len e ∷ [])
+    (filled_to room d (take len (set cells len d)) ≡ set cells len d) × (length (take len (set cells len d)) ≡ len) ×
+    ((e : X) → take (len + 1) cells ≡ take len (set cells len d) ++ get_or cells len e ∷ [])
 popped_cells {X} room len d cells full sized within =
     let size : length cells ≡ room = length-cells room (len + 1) d cells full sized within in
     let xs : List X = take len cells in

@@ -1,6 +1,7 @@
 use Rattle.std.proofs.Common.{◌≡◌, ℕ, suc, zero, Bool, true, false, ◌<◌, ◌≤◌, ◌||◌, ◌&&◌, inl, inr, List, [], ◌∷◌, length, get_or, nat_lt, nat_le, nat_eq, not, refl, ap, sym, ◌∙◌, arith}
 use Rattle.std.specs.List.{list_all, list_any}
-use Rattle.std.proofs.lemmas.Bool.{cases_Bool, cases_lt, and_parts, and_from, or_parts, or_cases, or_left, or_right, ltb-true, leb-true, lt-ltb, le-leb, eqb-true, eqb-false, eq-eqb, not-true, not-false, both_ways, false_from_ne_true}
+use Rattle.std.proofs.lemmas.Bool.{cases_Bool, cases_lt, and_parts, and_from, or_parts, or_cases, or_left, or_right, ltb-true, leb-true, lt-ltb, le-leb, eqb-true, eqb-false, eq-eqb, not-true}
+use Rattle.std.proofs.lemmas.Bool.{not-false, both_ways, false_from_ne_true}
 use Rattle.std.proofs.lemmas.List.Folds.{Any-from_list_any, list_any_at}
 use Rattle.rf_zones.specs.Times.{is_on, holds, is_interval}
 use Rattle.rf_zones.specs.Masks.{has_bits}
@@ -58,7 +59,8 @@ on_before : (t : List (ℕ × ℕ)) (n : ℕ) → is_on t (suc n) ≡ true → b
 on_before [] n on none = refl
 on_before (i ∷ is) n on none = held_before (i ∷ is) n on none
 
-all_before : (times : List (List (ℕ × ℕ))) (set : List ℕ) (n : ℕ) → list_all (on_at times (suc n)) set ≡ true → list_any (λ k. begins (suc n) (get_or times k [])) set ≡ false → list_all (on_at times n) set ≡ true
+all_before : (times : List (List (ℕ × ℕ))) (set : List ℕ) (n : ℕ) → list_all (on_at times (suc n)) set ≡ true →
+    list_any (λ k. begins (suc n) (get_or times k [])) set ≡ false → list_all (on_at times n) set ≡ true
 all_before times [] n on none = refl
 all_before times (k ∷ set) n on none =
     let parts = and_parts (on_at times (suc n) k) (list_all (on_at times (suc n)) set) on in
@@ -114,7 +116,8 @@ from_interval test (i ∷ is) valid some =
       | inr later ↦ from_interval test is parts.1 later
     ]
 
-from_times : (test : ℕ → Bool) (ts : List (List (ℕ × ℕ))) → list_all (list_all is_interval) ts ≡ true → list_any (λ t. list_any (λ i. test i.0) t) ts ≡ true → (minute : ℕ) × (minute < 10080) × (test minute ≡ true)
+from_times : (test : ℕ → Bool) (ts : List (List (ℕ × ℕ))) → list_all (list_all is_interval) ts ≡ true →
+    list_any (λ t. list_any (λ i. test i.0) t) ts ≡ true → (minute : ℕ) × (minute < 10080) × (test minute ≡ true)
 from_times test [] valid some = cc
 from_times test (t ∷ ts) valid some =
     let parts = and_parts (list_all is_interval t) (list_all (list_all is_interval) ts) valid in
@@ -177,7 +180,8 @@ starts_tell times set valid = same_test (passes_start times (has_bits set) times
     ])
 
 -- each mask is that of a minute
-pub starts_real : (times : List (List (ℕ × ℕ))) (masks : List ℕ) → list_all (list_all is_interval) times ≡ true → ((test : ℕ → Bool) → list_any test masks ≡ passes_start times test times) → list_all (is_slice times) masks ≡ true
+pub starts_real : (times : List (List (ℕ × ℕ))) (masks : List ℕ) → list_all (list_all is_interval) times ≡ true →
+    ((test : ℕ → Bool) → list_any test masks ≡ passes_start times test times) → list_all (is_slice times) masks ≡ true
 unfolding is_slice
 starts_real times masks valid told = all_unless_other (is_slice times) masks (false_from_ne_true (list_any (λ mask. not (is_slice times mask)) masks) (λ some.
     let found = start_is_minute times (λ mask. not (is_slice times mask)) valid (sym (told (λ mask. not (is_slice times mask))) ∙ some) in
@@ -193,14 +197,16 @@ from_begin times set (i ∷ is) some = elim (or_cases (nat_lt i.0 10080 && list_
   | inr later ↦ from_begin times set is later
 ]
 
-from_begins : (times : List (List (ℕ × ℕ))) (set ks : List ℕ) → list_any (λ k. share_begin times set (get_or times k [])) ks ≡ true → (minute : ℕ) × (minute < 10080) × (list_all (on_at times minute) set ≡ true)
+from_begins : (times : List (List (ℕ × ℕ))) (set ks : List ℕ) → list_any (λ k. share_begin times set (get_or times k [])) ks ≡ true →
+    (minute : ℕ) × (minute < 10080) × (list_all (on_at times minute) set ≡ true)
 from_begins times set [] some = cc
 from_begins times set (k ∷ ks) some = elim (or_cases (share_begin times set (get_or times k [])) (list_any (λ j. share_begin times set (get_or times j [])) ks) some) [
   | inl here ↦ from_begin times set (get_or times k []) here
   | inr later ↦ from_begins times set ks later
 ]
 
-to_begin : (times : List (List (ℕ × ℕ))) (set : List ℕ) (minute : ℕ) (is : List (ℕ × ℕ)) → minute < 10080 → list_all (on_at times minute) set ≡ true → begins minute is ≡ true → share_begin times set is ≡ true
+to_begin : (times : List (List (ℕ × ℕ))) (set : List ℕ) (minute : ℕ) (is : List (ℕ × ℕ)) → minute < 10080 →
+    list_all (on_at times minute) set ≡ true → begins minute is ≡ true → share_begin times set is ≡ true
 to_begin times set minute is within on begun =
     to_interval (λ m. nat_lt m 10080 && list_all (on_at times m) set) minute is begun
     (and_from (nat_lt minute 10080) (list_all (on_at times minute) set) (lt-ltb minute 10080 within) on)

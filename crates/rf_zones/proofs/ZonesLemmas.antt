@@ -1,4 +1,5 @@
-use Rattle.std.proofs.Common.{◌≡◌, ◌≢◌, ℕ, suc, zero, Bool, true, false, ◌+◌, ◌-◌, ◌<◌, ◌≤◌, List, [], ◌∷◌, ◌++◌, length, get_or, set, take, drop, replicate, nat_lt, cond, slice_get, Some, None, refl, ap, sym, ◌∙◌, arith, length-append}
+use Rattle.std.proofs.Common.{◌≡◌, ◌≢◌, ℕ, suc, zero, Bool, true, false, ◌+◌, ◌-◌, ◌<◌, ◌≤◌, List, [], ◌∷◌, ◌++◌, length, get_or, set, take, drop, replicate, nat_lt, cond, slice_get, Some, None, refl}
+use Rattle.std.proofs.Common.{ap, sym, ◌∙◌, arith, length-append}
 use Rattle.std.specs.List.{list_all, list_any, IsDistinct, position, position_or_len}
 use Rattle.std.specs.Cmp.Lexicographic.{nat_list_eq_equiv}
 use Rattle.std.proofs.lemmas.Bool.{ne_eqb}
@@ -87,7 +88,8 @@ IsZones-front zones new name ok is more coupled =
 
 -- a zone that was taken away is put back
 pub put_back : (zones new : ZonesData) (name : List ℕ) → zones.names ≡ new.names ++ name ∷ [] → length new.names ≤ length zones.couplings →
-    new.couplings ≡ take (length zones.couplings - length new.names) zones.couplings → list_all is_apart (drop (length zones.couplings - length new.names) zones.couplings) ≡ true → with_zone new name ≡ zones
+    new.couplings ≡ take (length zones.couplings - length new.names) zones.couplings →
+    list_all is_apart (drop (length zones.couplings - length new.names) zones.couplings) ≡ true → with_zone new name ≡ zones
 put_back zones new name is room coupled free =
     let rest : List Coupling = drop (length zones.couplings - length new.names) zones.couplings in
     let count : length rest ≡ length new.names = omega (arith, length-drop (length zones.couplings - length new.names) zones.couplings) in

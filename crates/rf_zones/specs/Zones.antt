@@ -1,4 +1,5 @@
-use Rattle.std.specs.Prelude.{◌≡◌, ℕ, suc, zero, Bool, List, [], ◌∷◌, ◌++◌, ◌+◌, ◌-◌, ◌≤◌, ◌||◌, ◌&&◌, nat_eq, nat_lt, length, take, drop, replicate, slice_get, slice_set, slice_index_or, position, Option, Some, if◌then◌else◌}
+use Rattle.std.specs.Prelude.{◌≡◌, ℕ, suc, zero, Bool, List, [], ◌∷◌, ◌++◌, ◌+◌, ◌-◌, ◌≤◌, ◌||◌, ◌&&◌, nat_eq, nat_lt, length, take, drop, replicate, slice_get, slice_set, slice_index_or, position}
+use Rattle.std.specs.Prelude.{Option, Some, if◌then◌else◌}
 use Rattle.std.specs.List.{IsDistinct, list_all}
 use Rattle.rf_base.specs.Name.{same_name}
 use Rattle.rf_zones.specs.Couplings.{is_apart, is_heard, is_reached}

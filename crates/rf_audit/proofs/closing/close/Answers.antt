@@ -9,7 +9,8 @@ pub returns-in-Dead-clause-closed : goal.returns-in-Dead-clause-closed
 returns-in-Dead-clause-closed c = λ path left. closed-dead (case_of c.args.show.now) path _ _ (c.rounds.invariant.left path left) c.in-Dead.ensures
 
 pub returns-in-Settled-clause-closed : goal.returns-in-Settled-clause-closed
-returns-in-Settled-clause-closed c = λ path left. closed-settled c.settled_box_is_closed.ensures (case_of c.args.show.now) path _ _ (c.rounds.invariant.left path left) c.in-Settled.ensures.0 c.in-Settled.ensures.1
+returns-in-Settled-clause-closed c =
+    λ path left. closed-settled c.settled_box_is_closed.ensures (case_of c.args.show.now) path _ _ (c.rounds.invariant.left path left) c.in-Settled.ensures.0 c.in-Settled.ensures.1
 
 pub rounds-smaller : goal.rounds-smaller
 rounds-smaller c =

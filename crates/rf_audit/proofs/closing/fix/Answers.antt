@@ -13,4 +13,5 @@ returns-clause-left c = λ path left.
     let old = c.args.left.now.sets.items in
     left-more case c.args.left.now.fixed.items c.args.carrier c.args.at c.requires.fixed path old c.spread.new.sets.items c.requires.newly left
     (subst (λ (fs : List (Option ℕ)). Falls case fs old c.spread.new.sets.items) c.as_slice.ensures.value c.spread.ensures.falls)
-    (subst (λ (fs : List (Option ℕ)). (kind : Kind) (place : ℕ) → Contains kinds kind → place < roles_of kind → IsClearedWith case fs c.spread.new.sets.items c.args.carrier kind place) c.as_slice.ensures.value c.spread.ensures.cleared)
+    (subst (λ (fs : List (Option ℕ)). (kind : Kind) (place : ℕ) → Contains kinds kind → place < roles_of kind →
+    IsClearedWith case fs c.spread.new.sets.items c.args.carrier kind place) c.as_slice.ensures.value c.spread.ensures.cleared)

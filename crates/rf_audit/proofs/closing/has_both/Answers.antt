@@ -8,11 +8,13 @@ returns-in-None c =
     let sets = c.args.left.now.sets.items in
     let known = c.requires.known in
     let full = c.requires.sized.full in
-    no-left sets c.args.side c.index-marks.result.now (c.index-marks.ensures ∙ get_or_default sets c.args.side.carrier c.index-marks.result.now [] (omega (arith, known, full))) c.requires.inside c.in-None.ensures
+    no-left sets c.args.side c.index-marks.result.now
+    (c.index-marks.ensures ∙ get_or_default sets c.args.side.carrier c.index-marks.result.now [] (omega (arith, known, full))) c.requires.inside c.in-None.ensures
 
 pub returns-in-Some : goal.returns-in-Some
 returns-in-Some c =
     let sets = c.args.left.now.sets.items in
     let known = c.requires.known in
     let full = c.requires.sized.full in
-    tells-sides sets c.args.side c.index-marks.result.now (c.index-marks.ensures ∙ get_or_default sets c.args.side.carrier c.index-marks.result.now [] (omega (arith, known, full))) c.requires.inside _ c.has_outside.result c.in-Some.ensures c.has_outside.ensures
+    tells-sides sets c.args.side c.index-marks.result.now (c.index-marks.ensures
+    ∙ get_or_default sets c.args.side.carrier c.index-marks.result.now [] (omega (arith, known, full))) c.requires.inside _ c.has_outside.result c.in-Some.ensures c.has_outside.ensures

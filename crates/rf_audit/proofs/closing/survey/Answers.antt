@@ -17,7 +17,8 @@ returns-then-not-has c = λ held living.
     let low : d < length sets = let t = c.loop-c-test.true in let n = c.len-c-end.ensures in omega (arith, t, n) in
     let some = living d (let e = counts_length (case_of c.args.show.now) in omega (arith, e, full, low)) in
     let at = c.index-marks.ensures ∙ get_or_default sets d c.index-marks.result.now [] low in
-    let fixed : fixed_at c.args.left.now.fixed.items d ≡ Some c.in-Some.k = sym (c.index.ensures ∙ get_or_default c.args.left.now.fixed.items d c.index.result.now None (let f = c.requires.fixed.full in omega (arith, f, full, low))) ∙ c.in-Some.is in
+    let fixed : fixed_at c.args.left.now.fixed.items d ≡ Some c.in-Some.k =
+    sym (c.index.ensures ∙ get_or_default c.args.left.now.fixed.items d c.index.result.now None (let f = c.requires.fixed.full in omega (arith, f, full, low))) ∙ c.in-Some.is in
     let is : some.0 ≡ c.in-Some.k = held d c.in-Some.k some.0 fixed some.1 in
     true≢false (sym (subst (λ (k : ℕ). in_sets sets d k ≡ true) is some.1) ∙ (ap (λ m. has m c.in-Some.k) (sym at) ∙ (sym c.has.ensures ∙ c.if-not-has.true)))
 

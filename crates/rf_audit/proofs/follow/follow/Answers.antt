@@ -16,7 +16,8 @@ use Rattle.rf_audit.proofs.follow.follow.Goals.{then-is_branch, else-is_branch}
 
 pub returns-in-Some : goal.returns-in-Some
 returns-in-Some c = c.loop-i.invariant.same _
-    (refused-here (case_of c.args.show.now) c.args.lines.now c.loop-i.i c.index-lines-i.result _ c.args.verdict (omega arith) c.index-lines-i.is c.loop-i.invariant.walked c.in-Some.cause (sym c.refusal_at.ensures ∙ c.in-Some.is))
+    (refused-here (case_of c.args.show.now) c.args.lines.now c.loop-i.i c.index-lines-i.result _ c.args.verdict
+    (omega arith) c.index-lines-i.is c.loop-i.invariant.walked c.in-Some.cause (sym c.refusal_at.ensures ∙ c.in-Some.is))
 
 pub is_honest-requires-clause-sized : goal.is_honest-requires-clause-sized
 is_honest-requires-clause-sized c = (c.loop-i.invariant.left c.if-prove.false).sized
@@ -29,15 +30,19 @@ keep_up-requires-clause-sized c = (c.is_honest.ensures.left (reverse c.loop-i.pa
 
 pub is_honest-requires-clause-known : goal.is_honest-requires-clause-known
 is_honest-requires-clause-known c =
-    let none = sym (refusal-here (case_of c.args.show.now) c.args.lines.now c.loop-i.i c.index-lines-i.result _ c.args.verdict (omega arith) c.index-lines-i.is c.loop-i.invariant.walked) ∙ (sym c.refusal_at.ensures ∙ c.in_default.is) in
+    let none = sym (refusal-here (case_of c.args.show.now) c.args.lines.now c.loop-i.i c.index-lines-i.result _ c.args.verdict (omega arith) c.index-lines-i.is c.loop-i.invariant.walked)
+    ∙ (sym c.refusal_at.ensures ∙ c.in_default.is) in
     (tests_passed (case_of c.args.show.now) (take c.loop-i.i c.args.lines.now) (reverse c.loop-i.path.items) c.index-lines-i.result
-    (subst (λ (b : Bool). cause_of (case_of c.args.show.now) (take c.loop-i.i c.args.lines.now) (if b then Some (reverse c.loop-i.path.items) else None) c.index-lines-i.result ≡ None) c.if-prove.false none)).known
+    (subst (λ (b : Bool). cause_of (case_of c.args.show.now) (take c.loop-i.i c.args.lines.now)
+    (if b then Some (reverse c.loop-i.path.items) else None) c.index-lines-i.result ≡ None) c.if-prove.false none)).known
 
 pub is_honest-requires-clause-fits : goal.is_honest-requires-clause-fits
 is_honest-requires-clause-fits c =
-    let none = sym (refusal-here (case_of c.args.show.now) c.args.lines.now c.loop-i.i c.index-lines-i.result _ c.args.verdict (omega arith) c.index-lines-i.is c.loop-i.invariant.walked) ∙ (sym c.refusal_at.ensures ∙ c.in_default.is) in
+    let none = sym (refusal-here (case_of c.args.show.now) c.args.lines.now c.loop-i.i c.index-lines-i.result _ c.args.verdict (omega arith) c.index-lines-i.is c.loop-i.invariant.walked)
+    ∙ (sym c.refusal_at.ensures ∙ c.in_default.is) in
     (tests_passed (case_of c.args.show.now) (take c.loop-i.i c.args.lines.now) (reverse c.loop-i.path.items) c.index-lines-i.result
-    (subst (λ (b : Bool). cause_of (case_of c.args.show.now) (take c.loop-i.i c.args.lines.now) (if b then Some (reverse c.loop-i.path.items) else None) c.index-lines-i.result ≡ None) c.if-prove.false none)).fit
+    (subst (λ (b : Bool). cause_of (case_of c.args.show.now) (take c.loop-i.i c.args.lines.now)
+    (if b then Some (reverse c.loop-i.path.items) else None) c.index-lines-i.result ≡ None) c.if-prove.false none)).fit
 
 tells-no : (P : Type 0) (b : Bool) → b ≡ false → Tells P b → P → ⊥
 tells-no P true e tells p = absurd (true≢false e)
@@ -74,16 +79,19 @@ loop-i-preserved c =
     let after : tree_after (Some (reverse path)) line ≡ next = c.in_ok-open.ensures in
     let none : cause_of case (take i lines) (Some (reverse path)) line ≡ None =
     ap (λ (t : Tree). cause_of case (take i lines) t line) (sym is_open) ∙ (sym (refusal-here case lines i line tree c.args.verdict low c.index-lines-i.is c.loop-i.invariant.walked) ∙ said) in
-    let none_at : cause_of case (take i lines) (Some (reverse path)) (get_or lines i line) ≡ None = ap (λ (l : LogLine). cause_of case (take i lines) (Some (reverse path)) l) (sym c.index-lines-i.is) ∙ none in
+    let none_at : cause_of case (take i lines) (Some (reverse path)) (get_or lines i line) ≡ None =
+    ap (λ (l : LogLine). cause_of case (take i lines) (Some (reverse path)) l) (sym c.index-lines-i.is) ∙ none in
     let after_at : tree_after (Some (reverse path)) (get_or lines i line) ≡ next = ap (λ (l : LogLine). tree_after (Some (reverse path)) l) (sym c.index-lines-i.is) ∙ after in
-    let before : walk case (take i lines) (Some (reverse path)) (drop i lines) ≡ c.args.verdict = ap (λ (t : Tree). walk case (take i lines) t (drop i lines)) (sym is_open) ∙ c.loop-i.invariant.walked in
+    let before : walk case (take i lines) (Some (reverse path)) (drop i lines) ≡ c.args.verdict =
+    ap (λ (t : Tree). walk case (take i lines) t (drop i lines)) (sym is_open) ∙ c.loop-i.invariant.walked in
     let before_left = c.is_honest.ensures.left (reverse path) (c.loop-i.invariant.left c.if-prove.false) in
     let kind : c.is_branch.result ≡ is_branch (get_or lines i line) = c.is_branch.ensures ∙ ap is_branch c.index-lines-i.is in
     record {
       same = λ found on. c.loop-i.invariant.same found (on-here case lines i line tree c.args.verdict low c.index-lines-i.is c.loop-i.invariant.walked next found said
           (subst (λ (t : Tree). IsHonestLine case t line) (sym is_open) honest) (ap (λ (t : Tree). tree_after t line) is_open ∙ after) on);
       walked = walk_step case lines i line (reverse path) next _ low none_at after_at before;
-      left = λ opens. subst (λ (xs : List Cond). IsLeft case (reverse xs) c.keep_up.new.left.fixed.items c.keep_up.new.left.sets.items) c.as_slice.ensures.value (c.in_ok-keep_up.ensures (reverse path) before_left
+      left = λ opens. subst (λ (xs : List Cond). IsLeft case (reverse xs) c.keep_up.new.left.fixed.items c.keep_up.new.left.sets.items) c.as_slice.ensures.value
+          (c.in_ok-keep_up.ensures (reverse path) before_left
           (after ∙ ap (λ (b : Bool). if b then Some (reverse c.grow.new.path.items) else None) opens ∙ ap (λ (xs : List Cond). Some (reverse xs)) (sym c.as_slice.ensures.value)));
       count = elim c.if-is_branch.branch [
         | then-is_branch w ↦ w.branchings-is ∙ (ap (λ n. n + 1) c.loop-i.invariant.count ∙ sym (count_by_more_yes is_branch lines i line low (sym kind ∙ w.if-is_branch.true)))

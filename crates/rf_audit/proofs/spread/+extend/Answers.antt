@@ -40,7 +40,8 @@ extend-requires-in-Some t c =
     let row = c.requires.table.row c.loop-c.c low_row c.index.result.now c.index.ensures in
     let low_k : c.in-Some.k < length c.index.result.now.freqs.items = let e = ap length row.channels in let l = c.requires.fixed.known c.loop-c.c c.in-Some.k is in omega (arith, e, l) in
     let f = c.index-in-Some.result.now in
-    let f_is : f ≡ get_or (carrier_of case c.loop-c.c).freqs c.in-Some.k 0 = c.index-in-Some.ensures ∙ get_or_default c.index.result.now.freqs.items c.in-Some.k f 0 low_k ∙ ap (λ (fs : List ℕ). get_or fs c.in-Some.k 0) row.channels in
+    let f_is : f ≡ get_or (carrier_of case c.loop-c.c).freqs c.in-Some.k 0 =
+    c.index-in-Some.ensures ∙ get_or_default c.index.result.now.freqs.items c.in-Some.k f 0 low_k ∙ ap (λ (fs : List ℕ). get_or fs c.in-Some.k 0) row.channels in
     let f_small : f ≤ 10000000 = subst (λ (x : ℕ). x ≤ 10000000) (sym c.index-in-Some.ensures) (row.small c.in-Some.k f low_k) in (
       omega (arith, deep, c.decreases),
       (
@@ -54,7 +55,8 @@ extend-requires-in-Some t c =
               (
                 omega (arith, deep),
                 (
-                  chosen-more case fixed c.args.depth c.args.aim.place c.args.chosen c.args.freqs c.loop-c.c c.in-Some.k f c.if-depth-aim.false (omega (arith, deep, few, four)) (omega (arith, deep, few, four_freqs)) known is f_is c.requires.chosen,
+                  chosen-more case fixed c.args.depth c.args.aim.place c.args.chosen c.args.freqs c.loop-c.c c.in-Some.k f c.if-depth-aim.false
+                      (omega (arith, deep, few, four)) (omega (arith, deep, few, four_freqs)) known is f_is c.requires.chosen,
                   small-more c.args.freqs c.args.depth f f_small c.requires.small,
                 ),
               ),
@@ -88,8 +90,10 @@ loop-c-preserved t c =
           record {
             falls = subst (λ ss. Falls case fixed old ss) (sym e) (falls-more case fixed old now w.extend-in-Some.new.sets.items so_far w.extend-in-Some.ensures.falls);
             cleared = λ roles full along fix is low. subst (λ ss. IsCleared case fixed (in_sets ss) kind roles place) (sym e)
-                (carrier-more case fixed old now w.extend-in-Some.new.sets.items so_far w.extend-in-Some.ensures.falls kind place c.args.at c.args.x c.args.depth c.loop-c.c c.args.chosen c.loop-c.invariant.cleared
-                (λ roles full along fix is here. w.extend-in-Some.ensures.cleared roles full (along-more c.args.depth place c.args.chosen roles c.loop-c.c low_chosen along here) fix is) roles full along fix is low);
+                (carrier-more case fixed old now w.extend-in-Some.new.sets.items so_far w.extend-in-Some.ensures.falls
+                kind place c.args.at c.args.x c.args.depth c.loop-c.c c.args.chosen c.loop-c.invariant.cleared
+                (λ roles full along fix is here. w.extend-in-Some.ensures.cleared roles full
+                (along-more c.args.depth place c.args.chosen roles c.loop-c.c low_chosen along here) fix is) roles full along fix is low);
           }
       | in_default w ↦
           let e = ap (λ v. v.items) w.sets-is in
@@ -97,6 +101,8 @@ loop-c-preserved t c =
             falls = subst (λ ss. Falls case fixed old ss) (sym e) so_far;
             cleared = λ roles full along fix is low. subst (λ ss. IsCleared case fixed (in_sets ss) kind roles place) (sym e)
                 (carrier-more case fixed old now now so_far (falls-none case fixed now so_far.sized) kind place c.args.at c.args.x c.args.depth c.loop-c.c c.args.chosen c.loop-c.invariant.cleared
-                (λ roles full along fix is here. absurd (true≢false (sym (fix c.args.depth (omega (arith, full, deep)) c.if-depth-aim.false) ∙ (ap (λ (r : ℕ). is_some (fixed_at fixed r)) here ∙ ap is_some w.in_default.is)))) roles full along fix is low);
+                (λ roles full along fix is here. absurd
+                (true≢false (sym (fix c.args.depth (omega (arith, full, deep)) c.if-depth-aim.false)
+                ∙ (ap (λ (r : ℕ). is_some (fixed_at fixed r)) here ∙ ap is_some w.in_default.is)))) roles full along fix is low);
           }
     ]

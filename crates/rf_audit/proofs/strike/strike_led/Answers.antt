@@ -27,9 +27,11 @@ returns-then-from-end-clause-cleared c = λ d low led.
     let freqs_are = c.as_slice.ensures.value ∙ row.channels in
     let rest_is : to_z w64 (of_z w64 c.args.rest) ≡ c.args.rest = told c.args.rest (let b = c.requires.bound in omega (arith, b)) in
     let low_d : d < length c.args.table.now.rows.items = let e = c.requires.table.full in omega (arith, e, low) in
-    cleared-where case c.args.fixed.now c.args.sets.now.items kind place chosen c.args.freqs.now (to_z w64 (of_z w64 c.args.rest)) d c.window-from.result c.requires.sized four few c.requires.full c.requires.aim.low
+    cleared-where case c.args.fixed.now c.args.sets.now.items kind place chosen c.args.freqs.now
+    (to_z w64 (of_z w64 c.args.rest)) d c.window-from.result c.requires.sized four few c.requires.full c.requires.aim.low
     c.requires.chosen (rest_is ∙ c.requires.rest)
-    (led-told case kind place chosen leaders c.as_slice.result.now c.coefficient-multiple.result (to_z w64 (of_z w64 c.args.rest)) c.margin-margin.result g d (length c.args.freqs.now) c.window-from.result low_place
+    (led-told case kind place chosen leaders c.as_slice.result.now c.coefficient-multiple.result
+    (to_z w64 (of_z w64 c.args.rest)) c.margin-margin.result g d (length c.args.freqs.now) c.window-from.result low_place
     (c.requires.table.led d low_d) led freqs_are c.coefficient-multiple.ensures.value c.coefficient-multiple.ensures.small.1 c.requires.full c.margin-margin.ensures c.window-from.ensures.window)
     (λ k here above below. let none = c.if-from-end.true in absurd (omega (arith, above, below, none)))
 
@@ -51,7 +53,8 @@ strike_target-requires-clause-window c =
     let low_d : d < length c.args.table.now.rows.items = let t = c.loop-c-test.true in let n = c.len-c-end.ensures in let e = c.requires.table.all_led in omega (arith, t, n, e) in
     let low_l : d < length leaders = let e = c.requires.table.all_led in omega (arith, low_d, e) in
     let led : slice_index leaders d ≡ g = sym (c.index-in-loop-c.ensures ∙ get_or_default leaders d c.index-in-loop-c.result.now 0 low_l) ∙ c.if-index-g.true in
-    led-told case kind place chosen leaders c.as_slice.result.now c.coefficient-multiple.result (to_z w64 (of_z w64 c.args.rest)) c.margin-margin.result g d (length c.args.freqs.now) c.window-from.result low_place
+    led-told case kind place chosen leaders c.as_slice.result.now c.coefficient-multiple.result
+    (to_z w64 (of_z w64 c.args.rest)) c.margin-margin.result g d (length c.args.freqs.now) c.window-from.result low_place
     (c.requires.table.led d low_d) led freqs_are c.coefficient-multiple.ensures.value c.coefficient-multiple.ensures.small.1 c.requires.full c.margin-margin.ensures c.window-from.ensures.window
 
 pub loop-c-preserved : goal.loop-c-preserved
@@ -79,6 +82,8 @@ loop-c-preserved c =
             falls = subst (λ ss. Falls case fixed old ss) (sym e) so_far;
             cleared = λ d low led. subst (λ ss. IsClearedAt case fixed ss kind place c.args.chosen d) (sym e)
                 (target-more case fixed old now now so_far (falls-none case fixed now so_far.sized) kind place c.loop-c.c c.args.g c.args.chosen leaders
-                c.loop-c.invariant.cleared (λ is. absurd (w.if-index-g.false (c.index-in-loop-c.ensures ∙ get_or_default leaders c.loop-c.c c.index-in-loop-c.result.now 0 (let t = c.loop-c-test.true in let n = c.len-c-end.ensures in omega (arith, t, n)) ∙ is))) d low led);
+                c.loop-c.invariant.cleared (λ is. absurd
+                (w.if-index-g.false (c.index-in-loop-c.ensures ∙ get_or_default leaders c.loop-c.c c.index-in-loop-c.result.now 0 (let t = c.loop-c-test.true in
+                let n = c.len-c-end.ensures in omega (arith, t, n)) ∙ is))) d low led);
           }
     ]

@@ -43,7 +43,8 @@ returns-else-multiple-lt0-clause-window c = λ k known.
     let f = slice_index c.args.freqs.now k in
     shift (unsigned_abs (r +ℤ (m *ℤ pos f))) (unsigned_abs (rest +ℤ (multiple *ℤ pos f))) c.args.margin
     (ap (λ (z : ℤ). unsigned_abs (z +ℤ (m *ℤ pos f))) r_is ∙ ap (λ (z : ℤ). unsigned_abs (rest +ℤ (z *ℤ pos f))) m_is)
-    (near-between (length c.args.freqs.now) (λ (j : ℕ). r +ℤ (m *ℤ pos (slice_index c.args.freqs.now j))) c.args.margin _ _ c.first_past-else-multiple-lt0.result c.first_past-else-multiple-lt0-2.result
+    (near-between (length c.args.freqs.now)
+    (λ (j : ℕ). r +ℤ (m *ℤ pos (slice_index c.args.freqs.now j))) c.args.margin _ _ c.first_past-else-multiple-lt0.result c.first_past-else-multiple-lt0-2.result
     (lows c.from-margin.result c.args.margin c.from-margin.ensures (omega (arith, c.ranges.margin)))
     (highs c.from-margin.result c.args.margin c.from-margin.ensures (omega (arith, c.ranges.margin)))
     c.first_past-else-multiple-lt0.ensures.before c.first_past-else-multiple-lt0.ensures.after c.first_past-else-multiple-lt0-2.ensures.before c.first_past-else-multiple-lt0-2.ensures.after k known)

@@ -8,7 +8,8 @@ use Rattle.rf_checker.proofs.rule.all_break.Given as goal
 
 abbrev pub invariant-loop-k : goal.invariant-loop-k
 invariant-loop-k l = record {
-  each : (j : ℕ) → l.lo ≤ j → j < l.k → case.is_broken l.kind (slice_set (take (length l.roles) l.fn.freqs) l.place (case.freq_of (case_of l.show) l.target j)) (case.margin_of (case_of l.show) l.kind l.roles) ≡ true;
+  each : (j : ℕ) → l.lo ≤ j → j < l.k →
+      case.is_broken l.kind (slice_set (take (length l.roles) l.fn.freqs) l.place (case.freq_of (case_of l.show) l.target j)) (case.margin_of (case_of l.show) l.kind l.roles) ≡ true;
   same : Agree l.freqs l.fn.freqs l.place;
   four : length l.freqs ≡ 4;
   small : AreFrequencies l.freqs;

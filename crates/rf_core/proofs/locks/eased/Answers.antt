@@ -26,7 +26,8 @@ pub loop-i-preserved : goal.loop-i-preserved
 loop-i-preserved c = elim c.if-not-is_among.branch [
   | then-not-is_among w ↦
       let there = got c.carriers-carriers.result.now c.loop-i.i w.index-carriers-i.result c.loop-i-test.true w.index-carriers-i.is in
-      w.eased-is ∙ w.unlock.ensures ∙ ap (λ (x : Carrier). edited c.loop-i.eased (Unlock x.name)) (sym w.index-carriers-i.is) ∙ ap (λ show. edited show (Unlock w.index-carriers-i.result.name)) c.loop-i.invariant
+      w.eased-is ∙ w.unlock.ensures ∙ ap (λ (x : Carrier). edited c.loop-i.eased (Unlock x.name)) (sym w.index-carriers-i.is)
+      ∙ ap (λ show. edited show (Unlock w.index-carriers-i.result.name)) c.loop-i.invariant
       ∙ eased-given c.args.show.now c.args.keep.now c.loop-i.i w.index-carriers-i.result c.carriers-carriers.ensures.form
       (sym (ap (λ (cs : List Carrier). slice_get cs c.loop-i.i) c.carriers-carriers.ensures.value) ∙ there) (sym c.is_among.ensures ∙ w.if-not-is_among.true)
   | else-not-is_among w ↦

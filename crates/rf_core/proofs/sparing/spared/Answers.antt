@@ -19,7 +19,8 @@ returns-in_ok-push-in-Plan c = λ show n is has.
       record {
         locks = is.locks;
         few = omega (arith, c.requires.room, longer);
-        without = subst (λ (ps : List (List ℕ)). (i : ℕ) → i < length ps → IsPlan (case_of (kept show (remove c.args.held.keep.items i))) (slice_index_or ps i [])) (sym c.in_ok-push-in-Plan.ensures.items)
+        without = subst (λ (ps : List (List ℕ)). (i : ℕ) → i < length ps →
+            IsPlan (case_of (kept show (remove c.args.held.keep.items i))) (slice_index_or ps i [])) (sym c.in_ok-push-in-Plan.ensures.items)
             (plans-more (λ i p. IsPlan (case_of (kept show (remove c.args.held.keep.items i))) p) c.args.held.plans.items c.in-Plan.plan is.without plan);
         refutation = is.refutation;
       },

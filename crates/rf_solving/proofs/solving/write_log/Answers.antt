@@ -48,7 +48,8 @@ pub returns-clause-solved : goal.returns-clause-solved
 returns-clause-solved g c =
     let w = writer g.row.O.Denot (λ o. g.O.Sink.contents o) in
     of_sink
-    (λ o. IfOk c.solve.result (λ answer. (log : List LogLine) × Appends (g.O.Sink.contents c.args.output.now) (g.O.Sink.contents o) (log_text c.args.show.now log) × IsSolvedBy c.args.show.now c.args.budget (ending_of answer) log))
+    (λ o. IfOk c.solve.result (λ answer. (log : List LogLine) × Appends (g.O.Sink.contents c.args.output.now) (g.O.Sink.contents o) (log_text c.args.show.now log) ×
+    IsSolvedBy c.args.show.now c.args.budget (ending_of answer) log))
     _ _ _ _ (λ same. search (rules, same))
     (kept_by w c.solve.result _ c.solve.new.out c.args.budget _ c.solve.ensures.solved c.solve.ensures.failed c.solve.ensures.memory)
     (solved_by w c.solve.result _ c.solve.new.out c.args.show.now c.args.budget _ c.requires.names c.in-Ok.ensures c.solve.ensures.solved)

@@ -14,7 +14,9 @@ pub returns-in_default-clause-taken : goal.returns-in_default-clause-taken
 returns-in_default-clause-taken c =
     let inv = c.loop-turn.invariant in
     let ks = c.loop-turn.taken.items in
-    sym (inv.rest ∙ ap (λ zs. ks ++ zs) (stop-taken c.loop-turn.field c.args.field.now.crowd ks (c.args.count - c.loop-turn.turn) c.loop-turn.from inv.crowd inv.known inv.ats c.in_default.ensures.none (omega (arith, c.loop-turn-test.true))) ∙ append-nil ks)
+    sym (inv.rest ∙ ap (λ zs. ks ++ zs)
+    (stop-taken c.loop-turn.field c.args.field.now.crowd ks (c.args.count - c.loop-turn.turn) c.loop-turn.from inv.crowd inv.known inv.ats c.in_default.ensures.none
+    (omega (arith, c.loop-turn-test.true))) ∙ append-nil ks)
 
 pub overflow_add-from : goal.overflow_add-from
 overflow_add-from c =

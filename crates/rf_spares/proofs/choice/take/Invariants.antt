@@ -14,6 +14,7 @@ invariant-loop-turn l = record {
   many : length l.taken.items ≡ l.turn;
   within : All (λ k. k < length (channels_of l.initial.field)) l.taken.items;
   rest : chosen l.initial.field.crowd.show.now l.initial.field.crowd.profile l.initial.field.crowd.zone l.count
-      ≡ l.taken.items ++ taken_from (extended_by l.initial.field.crowd.show.now l.initial.field.crowd.profile l.initial.field.crowd.zone (map (slice_index (channels_of l.initial.field)) l.taken.items))
+      ≡ l.taken.items ++ taken_from
+      (extended_by l.initial.field.crowd.show.now l.initial.field.crowd.profile l.initial.field.crowd.zone (map (slice_index (channels_of l.initial.field)) l.taken.items))
       l.initial.field.crowd.profile l.initial.field.crowd.zone (l.count - l.turn) l.from (drop l.from (channels_of l.initial.field));
 }

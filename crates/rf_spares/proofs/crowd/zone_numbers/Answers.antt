@@ -16,7 +16,15 @@ number_of-requires c = omega (arith, c.requires)
 
 pub loop-i-preserved : goal.loop-i-preserved
 loop-i-preserved c = record {
-  done = fill-map (λ x. zone_number c.args.show.now.zones x.zone) c.carriers-carrier-items.result.now c.loop-i.numbers 96 c.loop-i.i c.args.own c.number_of.result c.carrier-item.result c.loop-i.invariant.done c.loop-i-test.true (omega (arith, ap length c.carriers-carrier-items.ensures.value, c.carriers-carrier-items.ensures.few)) c.carrier-item.is c.number_of.ensures.value;
-  within = set-all (λ m. m < length c.args.show.now.zones.names) c.loop-i.numbers 96 c.loop-i.i c.number_of.result (omega (arith, c.loop-i.invariant.room, ap length c.carriers-carrier-items.ensures.value, c.carriers-carrier-items.ensures.few, c.loop-i-test.true)) c.loop-i.invariant.within c.number_of.ensures.within;
+  done = fill-map (λ x. zone_number c.args.show.now.zones x.zone) c.carriers-carrier-items.result.now c.loop-i.numbers 96 c.loop-i.i c.args.own c.number_of.result c.carrier-item.result
+      c.loop-i.invariant.done c.loop-i-test.true (omega (arith, ap length c.carriers-carrier-items.ensures.value, c.carriers-carrier-items.ensures.few)) c.carrier-item.is c.number_of.ensures.value;
+  within = set-all (λ m. m < length c.args.show.now.zones.names) c.loop-i.numbers 96 c.loop-i.i c.number_of.result
+      (omega (
+        arith,
+        c.loop-i.invariant.room,
+        ap length c.carriers-carrier-items.ensures.value,
+        c.carriers-carrier-items.ensures.few,
+        c.loop-i-test.true,
+      )) c.loop-i.invariant.within c.number_of.ensures.within;
   room = length-set c.loop-i.numbers _ _ ∙ c.loop-i.invariant.room;
 }

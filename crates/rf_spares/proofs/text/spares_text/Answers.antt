@@ -12,7 +12,8 @@ returns c =
     let answer = c.args.answer.now in
     let profile : Profile = get_or c.profiles.result.now c.args.profile c.index-profiles-profile.result in
     let is : slice_get c.args.show.now.profiles c.args.profile ≡ Some profile =
-    slice_get-get_or c.args.show.now.profiles c.args.profile c.index-profiles-profile.result c.requires.profile ∙ ap (λ (ps : List Profile). Some (get_or ps c.args.profile c.index-profiles-profile.result)) (sym c.profiles.ensures) in
+    slice_get-get_or c.args.show.now.profiles c.args.profile c.index-profiles-profile.result c.requires.profile
+    ∙ ap (λ (ps : List Profile). Some (get_or ps c.args.profile c.index-profiles-profile.result)) (sym c.profiles.ensures) in
     let ranges : ranges_at c.args.show.now c.args.profile ≡ profile.channels = ap (λ o. option_map_or (λ (p : Profile). p.channels) o []) is in
     let flags = rw (c.as_slice-free.ensures) at c.in_ok-flags.ensures.flags in
     let ranges_text = rw c.deref.ensures.value at c.in_ok-write_ranges.ensures in

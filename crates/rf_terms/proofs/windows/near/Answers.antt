@@ -45,7 +45,8 @@ least c = to_z-of_z w64 c.div_euclid-least.result (record { sfits = c.div_euclid
 greatest : (c : After-div_euclid-greatest) → to_z w64 (of_z w64 c.div_euclid-greatest.result) ≡ c.div_euclid-greatest.result
 greatest c = to_z-of_z w64 c.div_euclid-greatest.result (record { sfits = c.div_euclid-greatest.type_inv })
 
-exact : (c : After-div_euclid-greatest) (x : ℤ) → (unsigned_abs ((c.args.coefficient *ℤ x) +ℤ c.args.rest) < c.args.margin) ↔ ((to_z w64 (of_z w64 c.div_euclid-least.result) ≤ℤ x) × (x ≤ℤ to_z w64 (of_z w64 c.div_euclid-greatest.result)))
+exact : (c : After-div_euclid-greatest) (x : ℤ) →
+    (unsigned_abs ((c.args.coefficient *ℤ x) +ℤ c.args.rest) < c.args.margin) ↔ ((to_z w64 (of_z w64 c.div_euclid-least.result) ≤ℤ x) × (x ≤ℤ to_z w64 (of_z w64 c.div_euclid-greatest.result)))
 exact c x = rw (least c, greatest c) (near-ends c.args.coefficient c.args.rest c.args.margin _ _ x (ends c))
 
 pub returns-then-least-greatest : goal.returns-then-least-greatest

@@ -9,7 +9,8 @@ loop-first-preserved c =
     let ordered = run.ordered in
     let next = c.in-Some.ensures in
     let last = c.min-last.ensures in
-    subst (λ (ps : List Piece). Taking c.args.domains.now c.remove_range.new.self c.args.pieces.now.items ps c.args.carrier c.args.lo c.args.hi (c.min-last.result + 1)) (sym c.in_ok-push.ensures.items)
+    subst (λ (ps : List Piece). Taking c.args.domains.now c.remove_range.new.self c.args.pieces.now.items ps c.args.carrier c.args.lo c.args.hi (c.min-last.result + 1))
+    (sym c.in_ok-push.ensures.items)
     (taking_more c.args.domains.now c.loop-first.domains c.remove_range.new.self c.args.pieces.now.items c.loop-first.pieces.items c.args.carrier c.args.lo c.args.hi
     c.loop-first.from c.in-Some.first c.min-last.result c.loop-first.invariant next.later (omega arith) (omega arith)
     (λ k later below. next.least k later below) (λ k later within. run.all k later (omega arith)) c.remove_range.ensures.sizes c.remove_range.ensures.has)

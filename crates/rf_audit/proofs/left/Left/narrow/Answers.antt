@@ -14,9 +14,11 @@ returns-then-carrier-len c = λ path left.
     let at = c.index_mut.ensures.value ∙ get_or_default old cond.carrier c.index_mut.result.now [] low in
     let cut = λ (k : ℕ). c.narrow.ensures.met k ∙ ap (λ (m : List Bool). has m k && is_met cond k) at in
     let marks = c.narrow.new.self in
-    narrow-left (case_of c.args.show.now) path cond c.args.self.now.fixed.items old _ (narrow-sized (case_of c.args.show.now) old cond.carrier marks c.requires.sized low (c.narrow.ensures.same ∙ ap length at))
+    narrow-left (case_of c.args.show.now) path cond c.args.self.now.fixed.items old _
+    (narrow-sized (case_of c.args.show.now) old cond.carrier marks c.requires.sized low (c.narrow.ensures.same ∙ ap length at))
     (narrow-fewer old cond marks low cut) (narrow-kept old cond marks low cut) left
 
 pub returns-else-carrier-len : goal.returns-else-carrier-len
 returns-else-carrier-len c = λ path left.
-    past-left (case_of c.args.show.now) path c.args.cond.now c.args.self.now.fixed.items c.args.self.now.sets.items (let t = c.if-carrier-len.false in let n = c.len.ensures in omega (arith, t, n)) left
+    past-left (case_of c.args.show.now) path c.args.cond.now c.args.self.now.fixed.items c.args.self.now.sets.items (let t = c.if-carrier-len.false in
+    let n = c.len.ensures in omega (arith, t, n)) left

@@ -22,7 +22,8 @@ loop-row-preserved c =
       full = ap length more ∙ length-append sets (marks ∷ []) ∙ ap (λ (m : ℕ). m + 1) full;
       fixed_full = ap length more_fixed ∙ length-append fixed (None ∷ []) ∙ ap (λ (m : ℕ). m + 1) fixed_full;
       free = λ d. ap (λ (fs : List (Option ℕ)). fixed_at fs d) more_fixed ∙ free-more fixed c.loop-row.invariant.free d;
-      sizes = λ d low_d. ap (λ (ss : List (List Bool)). length (slice_index_or ss d [])) more ∙ sizes-more case sets marks i full (ap length c.in_ok-copy.ensures ∙ row.full) c.loop-row.invariant.sizes d low_d;
+      sizes = λ d low_d. ap (λ (ss : List (List Bool)). length (slice_index_or ss d [])) more
+          ∙ sizes-more case sets marks i full (ap length c.in_ok-copy.ensures ∙ row.full) c.loop-row.invariant.sizes d low_d;
       allowed = λ d k low_d known. ap (λ (ss : List (List Bool)). in_sets ss d k) more
           ∙ allowed-more case sets marks i full (λ j known_j. ap (λ (m : List Bool). has m j) c.in_ok-copy.ensures ∙ row.allows j known_j) c.loop-row.invariant.allowed d k low_d known;
     }

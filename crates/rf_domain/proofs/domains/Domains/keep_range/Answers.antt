@@ -33,5 +33,6 @@ returns-clause-has c =
     let at = left c in
     let sets = c.self.inside.sets.items in
     has_set (λ old here. old && not here) and_idle sets c.args.carrier (outside c.args.lo c.args.hi) c.keep_range.new.self at.known
-    (λ k. c.keep_range.ensures.flags k ∙ ap (λ b. flag c.index_mut.result.now k && b) (sym (not_not (between c.args.lo c.args.hi k))) ∙ ap (λ s. flag s k && not (outside c.args.lo c.args.hi k)) at.read)
+    (λ k. c.keep_range.ensures.flags k ∙ ap (λ b. flag c.index_mut.result.now k && b) (sym (not_not (between c.args.lo c.args.hi k)))
+    ∙ ap (λ s. flag s k && not (outside c.args.lo c.args.hi k)) at.read)
     ∙ ap (λ s. without (has s) c.args.carrier (outside c.args.lo c.args.hi)) c.self.view_is

@@ -13,7 +13,8 @@ returns-then-from-self c =
 
 pub returns-then-self-eq1 : goal.returns-then-self-eq1
 returns-then-self-eq1 c =
-    none_behind c.self.inside.size c.self.inside.count c.self.inside.first c.args.from c.self.inside.words.items c.args.self.now c.self.invariant c.self.view_is c.if-self-eq1.true (omega (arith, c.if-from-self.true))
+    none_behind c.self.inside.size c.self.inside.count c.self.inside.first c.args.from c.self.inside.words.items c.args.self.now c.self.invariant c.self.view_is c.if-self-eq1.true
+    (omega (arith, c.if-from-self.true))
 
 pub returns-then-self-eq0 : goal.returns-then-self-eq0
 returns-then-self-eq0 c = record {

@@ -34,7 +34,11 @@ clear_range-requires-clause-room c =
 pub overflow_sub-self : goal.overflow_sub-self
 overflow_sub-self c =
     let done = cleared ((goal.at.overflow_sub-self c).After-clear_range) in
-    omega (arith, c.self.invariant.counted, count_cleared c.self.inside.size c.self.inside.words.items c.clear_range.new.words c.args.lo c.args.hi c.clear_range.result done.within done.bits done.counted)
+    omega (
+      arith,
+      c.self.invariant.counted,
+      count_cleared c.self.inside.size c.self.inside.words.items c.clear_range.new.words c.args.lo c.args.hi c.clear_range.result done.within done.bits done.counted,
+    )
 
 pub lowest_left-self-inside-requires-clause-padded : goal.lowest_left-self-inside-requires-clause-padded
 lowest_left-self-inside-requires-clause-padded c =

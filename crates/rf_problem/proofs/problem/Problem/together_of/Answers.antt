@@ -9,7 +9,8 @@ returns-then-share_slice c =
     let p = c.args.self.now in
     let set = c.args.set.now in
     let shared : share_slice p.slices set ≡ true = ap (λ s. share_slice s set) (sym (c.as_slice.ensures ∙ ap (λ v. v.slices) c.self.view_is)) ∙ sym c.share_slice.ensures ∙ c.if-share_slice.true in
-    let meeting : c.all_meet.result ≡ all_meet (length set) p.carriers set = c.all_meet.ensures ∙ ap (λ s. all_meet (length set) s set) (c.as_slice-then-share_slice.ensures.value ∙ ap (λ v. v.carriers) c.self.view_is) in
+    let meeting : c.all_meet.result ≡ all_meet (length set) p.carriers set =
+    c.all_meet.ensures ∙ ap (λ s. all_meet (length set) s set) (c.as_slice-then-share_slice.ensures.value ∙ ap (λ v. v.carriers) c.self.view_is) in
     meeting ∙ sym (ap (λ b. b && all_meet (length set) p.carriers set) shared)
     ∙ joined_is_together c.sets_are_tested.ensures p set c.requires.in_range c.requires.distinct c.requires.two c.requires.four
 

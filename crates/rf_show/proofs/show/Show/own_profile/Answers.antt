@@ -16,7 +16,8 @@ unwrap-requires c =
 pub returns-clause-value : goal.returns-clause-value
 returns-clause-value c =
     let show = c.args.self.now in
-    let named : option_copied c.profile_named.result ≡ find (is_profile (get_or show.carriers c.args.carrier c.index-carriers-carrier.result).profile) show.profiles = rw (c.profiles.ensures, c.carriers.ensures.value) at c.profile_named.ensures in
+    let named : option_copied c.profile_named.result ≡ find (is_profile (get_or show.carriers c.args.carrier c.index-carriers-carrier.result).profile) show.profiles =
+    rw (c.profiles.ensures, c.carriers.ensures.value) at c.profile_named.ensures in
     profile-is show c.args.carrier c.index-carriers-carrier.result c.requires ∙ sym named ∙ ap option_copied c.unwrap.ensures
 
 pub returns-clause-narrow : goal.returns-clause-narrow

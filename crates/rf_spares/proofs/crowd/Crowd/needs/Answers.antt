@@ -12,11 +12,13 @@ use Rattle.rf_spares.proofs.crowd.Crowd.needs.Goals as goal
 
 pub loop-carrier-init : goal.loop-carrier-init
 loop-carrier-init c =
-    ap (replicate 96) c.own_needs-needs.ensures ∙ sym (ap (λ zs. map (asked c.args.self.now.show.now c.args.kind) zs ++ replicate 96 (asked_at c.args.self.now.show.now c.args.self.now.profile c.args.kind)) upto-zero)
+    ap (replicate 96) c.own_needs-needs.ensures
+    ∙ sym (ap (λ zs. map (asked c.args.self.now.show.now c.args.kind) zs ++ replicate 96 (asked_at c.args.self.now.show.now c.args.self.now.profile c.args.kind)) upto-zero)
 
 pub loop-carrier-preserved : goal.loop-carrier-preserved
 loop-carrier-preserved c =
-    fill-upto (asked c.args.self.now.show.now c.args.kind) c.loop-carrier.needs 96 c.loop-carrier.carrier (asked_at c.args.self.now.show.now c.args.self.now.profile c.args.kind) c.margin.result c.loop-carrier.invariant
+    fill-upto (asked c.args.self.now.show.now c.args.kind) c.loop-carrier.needs 96 c.loop-carrier.carrier
+    (asked_at c.args.self.now.show.now c.args.self.now.profile c.args.kind) c.margin.result c.loop-carrier.invariant
     (omega (arith, ap length c.carriers-carrier-end.ensures.value, c.carriers-carrier-end.ensures.few, c.loop-carrier-test.true))
     (c.margin.ensures ∙ sym (ap (λ o. option_map_or (λ p. margin_of p c.args.kind) o 0) c.profile_of.ensures))
 

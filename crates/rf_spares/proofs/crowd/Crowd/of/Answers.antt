@@ -12,7 +12,8 @@ returns-clause-known c =
     let show = c.args.show.now in
     let named : c.name.result ≡ zone_name show c.args.zone = sym (ap (λ o. unwrap_or o []) (rw c.zones.ensures at c.name.ensures)) in
     let own : c.number_of-own.result ≡ own_number show c.args.zone = c.number_of-own.ensures.value ∙ ap (zone_number show.zones) named in
-    let numbers : c.zone_numbers-numbers.result ≡ zone_numbers show c.args.zone = c.zone_numbers-numbers.ensures.value ∙ ap (with_newcomers (map (λ d. zone_number show.zones d.zone) show.carriers)) own in
+    let numbers : c.zone_numbers-numbers.result ≡ zone_numbers show c.args.zone =
+    c.zone_numbers-numbers.ensures.value ∙ ap (with_newcomers (map (λ d. zone_number show.zones d.zone) show.carriers)) own in
     record {
       profile = c.requires.profile;
       zone = c.requires.zone;

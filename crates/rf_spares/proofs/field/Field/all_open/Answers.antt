@@ -24,7 +24,11 @@ pub advance-sweep-requires-clause-order : goal.advance-sweep-requires-clause-ord
 advance-sweep-requires-clause-order c =
     let self = c.args.self.now in
     let inside : c.loop-k.k < length (channels_of self) = omega (arith, c.loop-k-test.true, c.count-k-end.ensures.value, ap length c.channels-channels.ensures) in
-    omega (arith, c.loop-k.invariant.ahead c.loop-k.k (omega arith) inside, khz-at self (channels c.channels-channels.result.now) c.loop-k.k c.freq-khz.result c.channels-channels.ensures c.freq-khz.ensures)
+    omega (
+      arith,
+      c.loop-k.invariant.ahead c.loop-k.k (omega arith) inside,
+      khz-at self (channels c.channels-channels.result.now) c.loop-k.k c.freq-khz.result c.channels-channels.ensures c.freq-khz.ensures,
+    )
 
 pub is_open-requires-clause-spans : goal.is_open-requires-clause-spans
 is_open-requires-clause-spans c =
@@ -34,7 +38,8 @@ is_open-requires-clause-spans c =
 pub loop-k-preserved-then-not-is_open : goal.loop-k-preserved-then-not-is_open
 loop-k-preserved-then-not-is_open c =
     let self = c.args.self.now in
-    let khz : slice_index (channels_of self) c.loop-k.k ≡ c.freq-khz.result = khz-at self (channels c.channels-channels.result.now) c.loop-k.k c.freq-khz.result c.channels-channels.ensures c.freq-khz.ensures in
+    let khz : slice_index (channels_of self) c.loop-k.k ≡ c.freq-khz.result =
+    khz-at self (channels c.channels-channels.result.now) c.loop-k.k c.freq-khz.result c.channels-channels.ensures c.freq-khz.ensures in
     record {
       found = c.loop-k.invariant.found ∙ sym (filter-no (is_open_channel self) c.loop-k.k (ap (is_open self) khz ∙ sym c.is_open.ensures ∙ c.if-not-is_open.true));
       within = c.loop-k.invariant.within;
@@ -45,12 +50,14 @@ loop-k-preserved-then-not-is_open c =
 pub loop-k-preserved : goal.loop-k-preserved
 loop-k-preserved c =
     let self = c.args.self.now in
-    let khz : slice_index (channels_of self) c.loop-k.k ≡ c.freq-khz.result = khz-at self (channels c.channels-channels.result.now) c.loop-k.k c.freq-khz.result c.channels-channels.ensures c.freq-khz.ensures in
+    let khz : slice_index (channels_of self) c.loop-k.k ≡ c.freq-khz.result =
+    khz-at self (channels c.channels-channels.result.now) c.loop-k.k c.freq-khz.result c.channels-channels.ensures c.freq-khz.ensures in
     let inside : c.loop-k.k < length (channels_of self) = omega (arith, c.loop-k-test.true, c.count-k-end.ensures.value, ap length c.channels-channels.ensures) in
     record {
       found = c.in_ok-push.ensures.items ∙ ap (λ ks. ks ++ c.loop-k.k ∷ []) c.loop-k.invariant.found
           ∙ sym (filter-yes (is_open_channel self) c.loop-k.k (ap (is_open self) khz ∙ sym c.is_open.ensures ∙ c.if-not-is_open.false));
-      within = subst (All (λ j. j < length (channels_of self))) (sym c.in_ok-push.ensures.items) (All-push (λ j. j < length (channels_of self)) c.loop-k.open.items c.loop-k.k c.loop-k.invariant.within inside);
+      within = subst (All (λ j. j < length (channels_of self))) (sym c.in_ok-push.ensures.items)
+          (All-push (λ j. j < length (channels_of self)) c.loop-k.open.items c.loop-k.k c.loop-k.invariant.within inside);
       reached = c.advance-sweep.ensures.reached;
       ahead = ahead-next (channels_of self) c.loop-k.k c.freq-khz.result _ (rw c.channels-channels.ensures at c.count-k-end.ensures.rising) khz c.advance-sweep.ensures.place;
     }

@@ -9,7 +9,8 @@ use Rattle.rf_spares.proofs.field.Field.first_open.Goals as goal
 pub loop-k-preserved : goal.loop-k-preserved
 loop-k-preserved c =
     let self = c.args.self.now in
-    let khz : slice_index (channels_of self) c.loop-k.k ≡ c.freq-khz.result = ap (λ cs. slice_index cs c.loop-k.k) (sym c.channels-channels.ensures) ∙ get_or_from_slice_get _ c.loop-k.k c.freq-khz.result 0 c.freq-khz.ensures in
+    let khz : slice_index (channels_of self) c.loop-k.k ≡ c.freq-khz.result =
+    ap (λ cs. slice_index cs c.loop-k.k) (sym c.channels-channels.ensures) ∙ get_or_from_slice_get _ c.loop-k.k c.freq-khz.result 0 c.freq-khz.ensures in
     record {
       closed = λ k a b. elim (cases_lt k c.loop-k.k) [
         | inl low ↦ c.loop-k.invariant.closed k a low

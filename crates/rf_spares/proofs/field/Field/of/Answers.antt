@@ -26,7 +26,8 @@ overflow_sub-high c =
     first-channel own c.index-ranges-0.result c.ranges-2.ensures.form ∙ ap (λ rs. (get_or rs 0 c.index-ranges-0.result).from) (sym c.ranges-2.ensures.value)
     ∙ ap (λ (r : Span). r.from) (sym c.index-ranges-0.is) ∙ sym c.from-low.ensures.value in
     let last : slice_index (channels own) (length (channels own) - 1) ≡ c.get-high.result =
-    ap (λ n. slice_index (channels own) (n - 1)) (sym c.count.ensures.value) ∙ get_or_from_slice_get (channels own) (c.count.result - 1) c.freq.result 0 c.freq.ensures ∙ sym c.get-high.ensures.value in
+    ap (λ n. slice_index (channels own) (n - 1)) (sym c.count.ensures.value)
+    ∙ get_or_from_slice_get (channels own) (c.count.result - 1) c.freq.result 0 c.freq.ensures ∙ sym c.get-high.ensures.value in
     let some = some-channel own c.ranges-2.ensures.form in
     let between = channels-between (channels own) c.from-low.result c.get-high.result (length (channels own) - 1) c.count.ensures.rising first last (omega (arith, some)) in
     omega (arith, between.0, last)
@@ -39,11 +40,13 @@ returns-clause-known c =
     first-channel own c.index-ranges-0.result c.ranges-2.ensures.form ∙ ap (λ rs. (get_or rs 0 c.index-ranges-0.result).from) (sym c.ranges-2.ensures.value)
     ∙ ap (λ (r : Span). r.from) (sym c.index-ranges-0.is) ∙ sym c.from-low.ensures.value in
     let last : slice_index (channels own) (length (channels own) - 1) ≡ c.get-high.result =
-    ap (λ n. slice_index (channels own) (n - 1)) (sym c.count.ensures.value) ∙ get_or_from_slice_get (channels own) (c.count.result - 1) c.freq.result 0 c.freq.ensures ∙ sym c.get-high.ensures.value in
+    ap (λ n. slice_index (channels own) (n - 1)) (sym c.count.ensures.value)
+    ∙ get_or_from_slice_get (channels own) (c.count.result - 1) c.freq.result 0 c.freq.ensures ∙ sym c.get-high.ensures.value in
     let chs : channels_at crowd.show.now crowd.profile ≡ channels own = ap (λ o. option_map_or (λ (p : Profile). channels p.channels) o []) c.own_profile.ensures in
     let made = c.in_ok-marks.ensures in
     let gains = rw c.deref.ensures.value at c.mark_all.ensures in
-    let ats : length c.in_ok-ats.ats.items ≡ length crowd.show.now.carriers = ap length c.in_ok-ats.ensures ∙ length-map c.args.show.now.carriers (λ d. d.at) ∙ ap (λ (s : _). length s.carriers) (sym c.in_ok-crowd.ensures.show) in
+    let ats : length c.in_ok-ats.ats.items ≡ length crowd.show.now.carriers =
+    ap length c.in_ok-ats.ensures ∙ length-map c.args.show.now.carriers (λ d. d.at) ∙ ap (λ (s : _). length s.carriers) (sym c.in_ok-crowd.ensures.show) in
     record {
       known = c.in_ok-crowd.ensures.known;
       few = omega (arith, ats, c.in_ok-crowd.ensures.known.few);

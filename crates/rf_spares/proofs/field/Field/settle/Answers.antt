@@ -18,5 +18,6 @@ returns-clause-known c =
       known = c.requires.known.known;
       few = omega (arith, c.requires.room, ap length more, length-append old.ats.items (Some c.args.khz ∷ []));
       spans = λ k low. let spans = c.requires.known.spans k low in (omega (arith, spans.0, gains.low), omega (arith, spans.1, gains.low, gains.size));
-      marks = λ f few spans. settled-marks (site old.crowd) old.ats.items c.args.khz old.marks c.mark_all.new.marks c.requires.known.marks gains f few spans ∙ ap (λ zs. harms (site old.crowd) zs None f) (sym more);
+      marks = λ f few spans. settled-marks (site old.crowd) old.ats.items c.args.khz old.marks c.mark_all.new.marks c.requires.known.marks gains f few spans
+          ∙ ap (λ zs. harms (site old.crowd) zs None f) (sym more);
     }

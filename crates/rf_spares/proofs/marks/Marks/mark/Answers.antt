@@ -8,5 +8,6 @@ unfolding is_marked
 returns c = record {
   low = refl;
   size = length-set c.args.self.now.ends.items _ _;
-  marks = λ f few spans. mark-one c.args.self.now.ends.items c.args.self.now.low c.args.lo c.args.hi f _ _ c.index.result.now (ap (λ n. n - c.args.self.now.low) c.max-start.ensures) (c.max.ensures ∙ ap (λ e. max e c.args.hi) c.index.ensures) (omega (arith, c.if-place-len.false, c.len.ensures)) spans.0;
+  marks = λ f few spans. mark-one c.args.self.now.ends.items c.args.self.now.low c.args.lo c.args.hi f _ _ c.index.result.now (ap (λ n. n - c.args.self.now.low) c.max-start.ensures)
+      (c.max.ensures ∙ ap (λ e. max e c.args.hi) c.index.ensures) (omega (arith, c.if-place-len.false, c.len.ensures)) spans.0;
 }

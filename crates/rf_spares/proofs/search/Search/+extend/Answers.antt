@@ -16,7 +16,9 @@ use Rattle.rf_spares.proofs.search.Search.+extend.Goals.{After-next-from, After-
 pub returns-then-depth-roles : goal.returns-then-depth-roles
 returns-then-depth-roles t c =
     let s = c.args.self.now in
-    gains-as _ _ _ _ (λ f few. sym (harms-last (site_of s) s.ats.now s.must s.kind s.role (take c.args.depth c.args.others) (roles_of s.kind - 1 - c.args.depth) f (omega (arith, c.if-depth-roles.true, c.roles.ensures.value)))) c.judge.ensures
+    gains-as _ _ _ _ (λ f few. sym
+    (harms-last (site_of s) s.ats.now s.must s.kind s.role (take c.args.depth c.args.others)
+    (roles_of s.kind - 1 - c.args.depth) f (omega (arith, c.if-depth-roles.true, c.roles.ensures.value)))) c.judge.ensures
 
 -- the first others
 long : (t : ℕ) (c : After-next-from t) → length (take c.args.depth c.args.others) ≡ c.args.depth
@@ -27,7 +29,8 @@ long t c =
 pub loop-carrier-init : goal.loop-carrier-init
 loop-carrier-init t c =
     let s = c.args.self.now in
-    gains-none _ _ (λ f. any-none _ _ (λ i low. let b = c.next-from.ensures.below i low in harms-unwanted (site_of s) s.ats.now s.must s.kind s.role (take c.args.depth c.args.others ++ i ∷ []) _ f (omega (arith, b.0, long t c)) b.1))
+    gains-none _ _ (λ f. any-none _ _ (λ i low. let b = c.next-from.ensures.below i low in
+    harms-unwanted (site_of s) s.ats.now s.must s.kind s.role (take c.args.depth c.args.others ++ i ∷ []) _ f (omega (arith, b.0, long t c)) b.1))
 
 more : (t : ℕ) (c : After-extend-arg-1 t) → take (c.args.depth + 1) (set c.args.others c.args.depth c.loop-carrier.carrier) ≡ take c.args.depth c.args.others ++ c.loop-carrier.carrier ∷ []
 more t c =
@@ -38,7 +41,8 @@ pub extend-requires : goal.extend-requires
 extend-requires t c =
     let s = c.args.self.now in
     let deep : c.args.depth + 1 + 1 ≤ roles_of s.kind = omega (arith, c.if-depth-roles.false, c.roles.ensures.value, c.requires.depth) in
-    let push : AreCarriers s.ats.now (take c.args.depth c.args.others ++ c.loop-carrier.carrier ∷ []) = AreCarriers-push s.ats.now (take c.args.depth c.args.others) c.loop-carrier.carrier c.requires.taken (omega (arith, c.loop-carrier-test.true, c.next-from.ensures.within)) in
+    let push : AreCarriers s.ats.now (take c.args.depth c.args.others ++ c.loop-carrier.carrier ∷ []) =
+    AreCarriers-push s.ats.now (take c.args.depth c.args.others) c.loop-carrier.carrier c.requires.taken (omega (arith, c.loop-carrier-test.true, c.next-from.ensures.within)) in
     (omega (arith, deep, c.decreases), (c.requires.ready, (deep, rw (more t c) push)))
 
 pub loop-carrier-preserved : goal.loop-carrier-preserved
@@ -47,8 +51,10 @@ loop-carrier-preserved t c =
     let s = c.args.self.now in
     let k = roles_of s.kind - 1 - (c.args.depth + 1) in
     let F : ℕ → ℕ → Bool = λ f d. harms_from (site_of s) s.ats.now s.must s.kind s.role (take c.args.depth c.args.others ++ d ∷ []) k f in
-    gains-as _ _ (λ f. list_any (F f) (upto c.loop-carrier.carrier) || harms_from (site_of s) s.ats.now s.must s.kind s.role (take (c.args.depth + 1) (set c.args.others c.args.depth c.loop-carrier.carrier)) k f) _
-    (λ f few. ap (λ b. list_any (F f) (upto c.loop-carrier.carrier) || b) (ap (λ u. harms_from (site_of s) s.ats.now s.must s.kind s.role u k f) (more t m)) ∙ sym (any-plus (F f) c.loop-carrier.carrier))
+    gains-as _ _ (λ f. list_any (F f) (upto c.loop-carrier.carrier) || harms_from (site_of s) s.ats.now s.must s.kind s.role
+    (take (c.args.depth + 1) (set c.args.others c.args.depth c.loop-carrier.carrier)) k f) _
+    (λ f few. ap (λ b. list_any (F f) (upto c.loop-carrier.carrier) || b) (ap (λ u. harms_from (site_of s) s.ats.now s.must s.kind s.role u k f) (more t m))
+    ∙ sym (any-plus (F f) c.loop-carrier.carrier))
     (gains-then _ _ _ _ _ c.loop-carrier.invariant c.extend.ensures)
 
 pub returns : goal.returns
@@ -60,5 +66,6 @@ returns t c =
     (λ i a b.
     let past = c.next-from.ensures.above i (omega (arith, a, c.loop-carrier-test.false)) b in
     harms-unwanted (site_of s) s.ats.now s.must s.kind s.role (take c.args.depth c.args.others ++ i ∷ []) _ f (omega (arith, past.0, long t m)) past.1)
-    ∙ harms-next (site_of s) s.ats.now s.must s.kind s.role (take c.args.depth c.args.others) (roles_of s.kind - 1 - (c.args.depth + 1)) (roles_of s.kind - 1 - c.args.depth) f (omega (arith, c.if-depth-roles.false, c.roles.ensures.value, c.requires.depth)))
+    ∙ harms-next (site_of s) s.ats.now s.must s.kind s.role (take c.args.depth c.args.others) (roles_of s.kind - 1 - (c.args.depth + 1))
+    (roles_of s.kind - 1 - c.args.depth) f (omega (arith, c.if-depth-roles.false, c.roles.ensures.value, c.requires.depth)))
     c.loop-carrier.invariant

@@ -11,4 +11,6 @@ abbrev pub decreases-extend : goal.decreases-extend
 decreases-extend l = roles_of l.self.now.kind - l.depth
 
 abbrev pub invariant-loop-carrier : goal.invariant-loop-carrier
-invariant-loop-carrier l = Gains l.initial.marks l.marks (λ f. list_any (λ c. harms_from (site_of l.self) l.self.ats.now l.self.must l.self.kind l.self.role (take l.depth l.others ++ c ∷ []) (roles_of l.self.kind - 1 - (l.depth + 1)) f) (upto l.carrier))
+invariant-loop-carrier l = Gains l.initial.marks l.marks
+    (λ f. list_any (λ c. harms_from (site_of l.self) l.self.ats.now l.self.must l.self.kind l.self.role (take l.depth l.others ++ c ∷ []) (roles_of l.self.kind - 1 - (l.depth + 1)) f)
+    (upto l.carrier))

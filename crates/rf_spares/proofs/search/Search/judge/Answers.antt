@@ -13,4 +13,5 @@ window-near-requires-clause-freqs c = All-take (λ f. f ≤ 10000000) (length c.
 pub returns : goal.returns
 returns c =
     let s = c.args.self.now in
-    gains-as _ _ _ _ (λ f few. harm-window (site_of s) s.ats.now s.must s.kind s.role c.args.u.now _ _ _ _ _ f (sym c.is_wanted.ensures ∙ c.if-not-is_wanted.false) (sym c.admits.ensures ∙ c.if-not-admits.false) c.frequencies-others.ensures.value c.margin.ensures c.window-near.ensures (record { none = c.ends-lo.ensures.none; some = c.ends-lo.ensures.some }) few) c.mark.ensures
+    gains-as _ _ _ _ (λ f few. harm-window (site_of s) s.ats.now s.must s.kind s.role c.args.u.now _ _ _ _ _ f (sym c.is_wanted.ensures ∙ c.if-not-is_wanted.false) (sym c.admits.ensures
+    ∙ c.if-not-admits.false) c.frequencies-others.ensures.value c.margin.ensures c.window-near.ensures (record { none = c.ends-lo.ensures.none; some = c.ends-lo.ensures.some }) few) c.mark.ensures
