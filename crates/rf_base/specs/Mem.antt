@@ -1,5 +1,5 @@
 -- What the next call of a source, a sink or a shelf in memory answers.
-use Rattle.std.specs.Prelude.{◌≡◌, ℕ, Bool, true, false, ◌+◌, ◌-◌, ◌^◌, ◌==◌, ◌&&◌, ◌||◌, not, min, List, length, Vec, Result, Ok, Err, MatchResult, is_none, drop, vec_len}
+use Rattle.std.specs.Prelude.{◌≡◌, ℕ, Bool, true, false, ◌+◌, ◌-◌, ◌^◌, ◌==◌, ◌&&◌, ◌||◌, not, min, List, Vec, Result, Ok, Err, MatchResult, is_none, drop, vec_len}
 use Rattle.std.specs.List.{list_any}
 use Rattle.std.specs.declared.alloc.Global.{Global}
 use Rattle.rf_base.specs.Shelf.{file_of}

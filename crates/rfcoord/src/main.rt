@@ -12,13 +12,13 @@ use std::rt::Env;
 fn main(rt: HostRuntime) -> ExitCode {
     let alloc = rt.alloc();
     let Ok(words) = words_of(&rt) else {
-        return ExitCode::from(Status::Memory as u8);
+        return ExitCode::from(Status::Memory.exit_code());
     };
     let mut input = StdSource::new(rt.reader());
     let mut output = StdSink::new(writer(&rt));
     let mut shelf = FolderShelf::new(alloc, &rt);
     let status = run(alloc, &words, &mut input, &mut shelf, &mut output);
-    ExitCode::from(status as u8)
+    ExitCode::from(status.exit_code())
 }
 
 /// The words after the program's name, and none where one of them is no text.
