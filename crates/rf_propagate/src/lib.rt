@@ -11,4 +11,4 @@ pub use both::Both;
 pub use engine::Engine;
 pub use outcome::{Outcome, outcome_of};
 pub use removal::remove_banned;
-pub use theory::{Grows, Learns, Propagator, Theory};
+pub use theory::{Applies, Grows, Learns, Propagator, Theory};
