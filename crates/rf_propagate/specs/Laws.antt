@@ -6,7 +6,7 @@ use Rattle.rf_log.specs.declared.cond.Cond.{Cond}
 use Rattle.rf_log.specs.Case.{Case, counts_of}
 use Rattle.rf_log.specs.Box.{Box, between}
 use Rattle.rf_terms.specs.Kinds.{roles_of}
-use Rattle.rf_log.specs.Relations.{members, IsLiving, IsSettled, IsAllowedThroughout, HoldsThroughout, IsMet, IsWithin, Meets}
+use Rattle.rf_log.specs.Relations.{IsLiving, IsSettled, IsAllowedThroughout, HoldsThroughout, IsMet, IsWithin, Meets}
 use Rattle.rf_log.specs.Closure.{Closure}
 use Rattle.rf_log.specs.Hints.{Line, line_at, effect_of}
 use Rattle.rf_log.specs.declared.hint.Hint.TheVariants.{Earlier, Ban, Rule}

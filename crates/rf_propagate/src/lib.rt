@@ -3,12 +3,16 @@
 
 mod both;
 mod engine;
+mod line;
+mod opening;
 mod outcome;
 mod removal;
 mod theory;
 
 pub use both::Both;
 pub use engine::Engine;
+pub use line::apply_line;
+pub use opening::open_from;
 pub use outcome::{Outcome, outcome_of};
 pub use removal::remove_banned;
 pub use theory::{Applies, Grows, Learns, Propagator, Theory};
