@@ -1,5 +1,5 @@
 -- Instances, and the indices that break them.
-use Rattle.std.proofs.Common.{◌≡◌, ◌∙◌, ℕ, suc, ◌<◌, ◌==◌, Bool, true, false, not, ◌&&◌, ◌||◌, ◌⊎◌, List, [], ◌∷◌, length, map, refl, sym, ap, inl, inr, arith}
+use Rattle.std.proofs.Common.{◌≡◌, ◌∙◌, ℕ, suc, ◌<◌, ◌≤◌, ◌==◌, Bool, true, false, not, ◌&&◌, ◌||◌, ◌⊎◌, List, [], ◌∷◌, length, map, refl, sym, ap, inl, inr, arith}
 use Rattle.std.specs.Prelude.{All, is_some, insert, pos, unsigned_abs, nat_lt}
 use Rattle.std.specs.List.{list_all}
 use Rattle.std.proofs.lemmas.Bool.{cases_Bool, cases_eq, and_parts, and_from, true≢false, eq-eqb, ltb-true, lt-ltb}
@@ -104,16 +104,16 @@ ruled_at case has kind roles c k good sole broken =
     at_j j (inl e) = outside_or (between k k j) _ (λ inside. ap (λ x. breaks case kind roles (indices_with case has c x)) e ∙ broken)
     at_j j (inr e) = let out : between k k j ≡ false = grind (arith, nat_tests) in rw out refl
 
--- what a range of one index says
-ruled_parts : (case : Case) (has : Box) (kind : Kind) (roles : List ℕ) (c k : ℕ) → k < count_of case c → is_ruled_out case has kind roles c k k ≡ true
+-- what a range says of each of its indices
+pub ruled_within : (case : Case) (has : Box) (kind : Kind) (roles : List ℕ) (c lo hi k : ℕ) → k < count_of case c → lo ≤ k → k ≤ hi → is_ruled_out case has kind roles c lo hi ≡ true
     → (is_instance case kind roles ≡ true) × (list_all (λ o. (o == c) || is_some (only_index case has o)) roles ≡ true) × (breaks case kind roles (indices_with case has c k) ≡ true)
-ruled_parts case has kind roles c k known out =
+ruled_within case has kind roles c lo hi k known from to out =
     let parts = and_parts (is_instance case kind roles && list_all (λ o. (o == c) || is_some (only_index case has o)) roles) _ out in
     let front = and_parts (is_instance case kind roles) _ parts.0 in
-    let at : (not (between k k k) || breaks case kind roles (indices_with case has c k)) ≡ true =
-    each_below-at (count_of case c) (λ j. not (between k k j) || breaks case kind roles (indices_with case has c j)) k parts.1 known in
-    let self : between k k k ≡ true = grind (arith, nat_tests) in
-    (front.0, front.1, implied (between k k k) _ self at)
+    let at : (not (between lo hi k) || breaks case kind roles (indices_with case has c k)) ≡ true =
+    each_below-at (count_of case c) (λ j. not (between lo hi j) || breaks case kind roles (indices_with case has c j)) k parts.1 known in
+    let self : between lo hi k ≡ true = grind (arith, nat_tests) in
+    (front.0, front.1, implied (between lo hi k) _ self at)
   where
     implied : (a b : Bool) → a ≡ true → (not a || b) ≡ true → b ≡ true
     implied true b e h = h
@@ -127,6 +127,6 @@ pub clear_unbroken : (case : Case) (has : Box) (kind : Kind) (roles : List ℕ) 
 clear_unbroken case has kind roles c sized none = record {
   each = λ k here. elim (cases_Bool (is_ruled_out case has kind roles c k k)) [
     | inr out ↦ out
-    | inl out ↦ let parts = ruled_parts case has kind roles c k (sized k here) out in absurd (none k here parts.0 parts.1 parts.2)
+    | inl out ↦ let parts = ruled_within case has kind roles c k k k (sized k here) (omega arith) (omega arith) out in absurd (none k here parts.0 parts.1 parts.2)
   ];
 }

@@ -16,7 +16,7 @@ use Rattle.rf_domain.specs.Indices.{IsOnly, count_below}
 use Rattle.rf_domain.specs.Sets.{has, sizes, size_of}
 use Rattle.rf_trail.specs.Trace.{Trace}
 use Rattle.rf_props.specs.Sweeps.{left, has_at_most_one, sole_freq, IsSingle, HasMany, AreSingle, HaveMany}
-use Rattle.rf_props.proofs.StrikeLemmas.{sized_left}
+use Rattle.rf_propagate.proofs.LineLemmas.{low_of}
 
 pub only_below-some : (n : ℕ) (p : ℕ → Bool) (k : ℕ) → k < n → p k ≡ true → ((j : ℕ) → p j ≡ true → j ≡ k) → only_below n p ≡ Some k
 only_below-some zero p k low here alone = absurd (omega arith)
@@ -50,24 +50,22 @@ only_below-here (suc n) p k only =
     at_last e false is = cc
 
 -- the one index of a set, in the words of a case
-pub single_of : (case : Case) (t : Trace) (sets : List (List Bool)) (c k : ℕ) → t.counts ≡ counts_of case → has sets ≡ left t → IsOnly (get_or sets c []) k
-    → (only_index case (left t) c ≡ Some k) × (k < count_of case c)
-single_of case t sets c k counts is only =
-    let here : left t c k ≡ true = sym (ap (λ f. f c k) is) ∙ only.here in
-    let low : k < count_of case c = sized_left case t counts c k here in
-    (only_below-some (count_of case c) (left t c) k low here (λ j on. only.alone j (ap (λ f. f c j) is ∙ on)), low)
+pub single_of : (case : Case) (sets : List (List Bool)) (c k : ℕ) → sizes sets ≡ counts_of case → IsOnly (get_or sets c []) k
+    → (only_index case (has sets) c ≡ Some k) × (k < count_of case c)
+single_of case sets c k counts only =
+    let low : k < count_of case c = low_of case sets counts c k only.here in
+    (only_below-some (count_of case c) (has sets c) k low only.here (λ j on. only.alone j on), low)
 
-pub many_of : (case : Case) (t : Trace) (sets : List (List Bool)) (c : ℕ) → t.counts ≡ counts_of case → has sets ≡ left t → ((k : ℕ) → IsOnly (get_or sets c []) k → ⊥)
-    → HasMany case (left t) c
-many_of case t sets c counts is none = record { many = by (only_index case (left t) c) refl }
+pub many_of : (case : Case) (sets : List (List Bool)) (c : ℕ) → sizes sets ≡ counts_of case → ((k : ℕ) → IsOnly (get_or sets c []) k → ⊥) → HasMany case (has sets) c
+many_of case sets c counts none = record { many = by (only_index case (has sets) c) refl }
   where
-    by : (o : Option ℕ) → only_index case (left t) c ≡ o → is_some (only_index case (left t) c) ≡ false
+    by : (o : Option ℕ) → only_index case (has sets) c ≡ o → is_some (only_index case (has sets) c) ≡ false
     by None e = ap is_some e
     by (Some k) e =
-        let here = only_below-here (count_of case c) (left t c) k e in
+        let here = only_below-here (count_of case c) (has sets c) k e in
         absurd (none k (record {
-          here = ap (λ f. f c k) is ∙ here.1;
-          alone = λ j on. only_below-is (count_of case c) (left t c) k j e (sized_left case t counts c j (sym (ap (λ f. f c j) is) ∙ on)) (sym (ap (λ f. f c j) is) ∙ on);
+          here = here.1;
+          alone = λ j on. only_below-is (count_of case c) (has sets c) k j e (low_of case sets counts c j on) on;
         }))
 
 pub single_is : (case : Case) (has : Box) (c k f : ℕ) → only_index case has c ≡ Some k → f ≡ freq_of case c k → f ≤ 10000000 → IsSingle case has c f

@@ -65,8 +65,8 @@ pub fn strike(
     trail.remove_because(target, first, last, hint)
 }
 
-// The indices of a target that break the kind with these frequencies in the other roles, as the least and the greatest.
-fn broken_range(
+/// The indices of a target that break the kind with these frequencies in the other roles, as the least and the greatest.
+pub fn broken_range(
     problem: &Problem,
     kind: Kind,
     place: usize,

@@ -1,0 +1,2 @@
+pub mod RemovalLemmas
+pub mod SweepLemmas

@@ -1,0 +1,255 @@
+-- What a line takes out has a reason, and leaves it blocked.
+use Rattle.std.proofs.Common.{◌≡◌, ℕ, zero, suc, ◌+◌, ◌-◌, ◌<◌, ◌≤◌, ◌==◌, List, [], ◌∷◌, Bool, true, false, not, ◌&&◌, length, refl, sym, ◌∙◌, ap, subst, arith, inl, inr}
+use Rattle.std.specs.Prelude.{Result, Ok, Err, OnOk, OnErr, Some, slice_index_or}
+use Rattle.std.proofs.Math.Path.{fun_ext}
+use Rattle.std.proofs.lemmas.List.{length-map}
+use Rattle.std.proofs.lemmas.Bool.{cases_Bool, cases_lt, cases_eq, and_parts, and_from, true≢false, eqb-true}
+use Rattle.rf_log.specs.declared.cond.Cond.{Cond}
+use Rattle.rf_log.specs.declared.hint.Hint.TheVariants.{Earlier}
+use Rattle.rf_log.specs.Box.{Box, between, is_met, without, nothing}
+use Rattle.rf_log.specs.Case.{Case, counts_of}
+use Rattle.rf_log.specs.Hints.{Line, line_at, by_open, by_line}
+use Rattle.rf_log.specs.Relations.{members, HasNone}
+use Rattle.rf_domain.specs.Sets as sets
+use Rattle.rf_domain.specs.Sets.{size_of, has}
+use Rattle.rf_trail.specs.declared.entry.Entry.{Entry}
+use Rattle.rf_trail.specs.Trace.{Trace, has_of, box_of}
+use Rattle.rf_trail.proofs.TraceLemmas.{has_size}
+use Rattle.rf_propagate.specs.Laws.{Extends, same, more, IsJustified, two, one}
+use Rattle.rf_propagate.specs.Openings.{Holds, IsUnmet, HoldFrom, IsNextOpen, IsOneOpen}
+use Rattle.rf_nogoods.specs.Removals.{IsPart, IsTaken, IsDone, entry_by}
+use Rattle.rf_propagate.proofs.LineLemmas.{size_is, none_open, one_open, without_gone}
+use Rattle.rf_propagate.proofs.OpeningLemmas.{same_at, inside_is, outside_is, is_between, below_is, above_is, ends_of}
+
+-- ---- the reasons
+
+pub unit_reason : (case : Case) (lines : List Line) (es : List Entry) (number : ℕ) (conds : List Cond) (place : ℕ) (cond : Cond) (lo hi : ℕ)
+    → line_at lines number ≡ Some conds → IsOneOpen (has_of (counts_of case) es) conds place cond
+    → ((k : ℕ) → between lo hi k ≡ true → is_met cond k ≡ true) → lo ≤ hi → hi < size_of (counts_of case) cond.carrier
+    → IsJustified case lines es (entry_by number cond.carrier lo hi)
+unit_reason case lines es number conds place cond lo hi found open_ met ordered low =
+    let b = has_of (counts_of case) es in record {
+      hint = Earlier number;
+      is = refl;
+      after = without b cond.carrier (is_met cond);
+      works = ap (by_line case b) found ∙ ap (by_open b) (one_open case b conds place cond open_
+          (λ k here. subst (λ (n : ℕ). k < n) (size_is case cond.carrier) (has_size (counts_of case) es cond.carrier k here)));
+      gone = λ k inside. without_gone b cond.carrier (is_met cond) k (met k inside);
+      own = tt;
+      ordered = ordered;
+      in_range = low;
+    }
+
+-- the same over a trail with the case's counts
+pub unit_step : (case : Case) (lines : List Line) (t : Trace) (number : ℕ) (conds : List Cond) (place : ℕ) (cond : Cond) (lo hi : ℕ)
+    → t.counts ≡ counts_of case → line_at lines number ≡ Some conds → IsOneOpen (has_of t.counts t.entries) conds place cond
+    → ((k : ℕ) → between lo hi k ≡ true → is_met cond k ≡ true) → lo ≤ hi → hi < size_of t.counts cond.carrier
+    → IsJustified case lines t.entries (entry_by number cond.carrier lo hi)
+unit_step case lines t number conds place cond lo hi counts found open_ met ordered low =
+    unit_reason case lines t.entries number conds place cond lo hi found
+    (subst (λ (ns : List ℕ). IsOneOpen (has_of ns t.entries) conds place cond) counts open_) met ordered
+    (subst (λ (ns : List ℕ). hi < size_of ns cond.carrier) counts low)
+
+pub wipe_reason : (case : Case) (lines : List Line) (es : List Entry) (number : ℕ) (conds : List Cond) (c lo hi : ℕ)
+    → line_at lines number ≡ Some conds → HoldFrom (has_of (counts_of case) es) conds 0 → lo ≤ hi → hi < size_of (counts_of case) c
+    → IsJustified case lines es (entry_by number c lo hi)
+wipe_reason case lines es number conds c lo hi found held ordered low =
+    let b = has_of (counts_of case) es in record {
+      hint = Earlier number;
+      is = refl;
+      after = nothing;
+      works = ap (by_line case b) found ∙ ap (by_open b) (none_open case b conds held);
+      gone = λ k inside. refl;
+      own = tt;
+      ordered = ordered;
+      in_range = low;
+    }
+
+pub wipe_step : (case : Case) (lines : List Line) (t : Trace) (number : ℕ) (conds : List Cond) (c lo hi : ℕ)
+    → t.counts ≡ counts_of case → line_at lines number ≡ Some conds → HoldFrom (has_of t.counts t.entries) conds 0 → lo ≤ hi → hi < size_of t.counts c
+    → IsJustified case lines t.entries (entry_by number c lo hi)
+wipe_step case lines t number conds c lo hi counts found held ordered low =
+    wipe_reason case lines t.entries number conds c lo hi found
+    (subst (λ (ns : List ℕ). HoldFrom (has_of ns t.entries) conds 0) counts held) ordered
+    (subst (λ (ns : List ℕ). hi < size_of ns c) counts low)
+
+-- after a removal with a reason that may want memory
+pub extends_by : {A E : Type 0} (old new : Trace) (e : Entry) (r : Result A E)
+    → OnOk r (new ≡ record old { entries = e ∷ old.entries }) → OnErr r (new ≡ old)
+    → (case : Case) (lines : List Line) → IsJustified case lines old.entries e → Extends case lines old.entries new.entries
+extends_by old new e (Ok x) is none case lines why =
+    subst (λ (es : List Entry). Extends case lines old.entries es) (sym (ap (λ t. t.entries) is)) (more same why)
+extends_by old new e (Err x) none is case lines why =
+    subst (λ (es : List Entry). Extends case lines old.entries es) (sym (ap (λ t. t.entries) is)) same
+
+idle : (b : Box) (c : ℕ) (gone : ℕ → Bool) → ((k : ℕ) → gone k ≡ true → b c k ≡ false) → b ≡ sets.without b c gone
+idle b c gone none = fun_ext λ d. fun_ext λ k. elim (cases_Bool (gone k)) [
+  | inr stays ↦ sym (ap (λ (t : Bool). b d k && not ((d == c) && t)) stays ∙ kept (b d k) (d == c))
+  | inl goes ↦ elim (cases_eq d c) [
+    | inl at ↦
+        let away : b d k ≡ false = ap (λ x. b x k) at ∙ none k goes in
+        away ∙ sym (ap (λ (t : Bool). t && not ((d == c) && gone k)) away)
+    | inr other ↦ sym (elsewhere (b d k) (d == c) (gone k) (ne d c other))
+  ]
+]
+  where
+    kept : (t s : Bool) → (t && not (s && false)) ≡ t
+    kept true true = refl
+    kept true false = refl
+    kept false s = refl
+
+    elsewhere : (t s g : Bool) → s ≡ false → (t && not (s && g)) ≡ t
+    elsewhere true s g e = ap (λ (x : Bool). not (x && g)) e
+    elsewhere false s g e = refl
+
+    ne : (d c : ℕ) → (d ≡ c → ⊥) → (d == c) ≡ false
+    ne d c other = elim (cases_Bool (d == c)) [ inl at ↦ absurd (other (eqb-true d c at)) | inr away ↦ away ]
+
+-- nothing is left in the range
+pub none_struck : (ss : List (List Bool)) (t : Trace) (c lo hi : ℕ) → has ss ≡ has_of t.counts t.entries
+    → ((k : ℕ) → lo ≤ k → k ≤ hi → has ss c k ≡ false) → has_of t.counts t.entries ≡ sets.without (has_of t.counts t.entries) c (between lo hi)
+none_struck ss t c lo hi is none = idle (has_of t.counts t.entries) c (between lo hi) (λ k inside.
+    let ends = ends_of lo hi k inside in sym (ap (λ f. f c k) is) ∙ none k ends.0 ends.1)
+
+pub carrier_in : (counts : List ℕ) (c k : ℕ) → k < size_of counts c → c < length counts
+carrier_in [] c k low = absurd (omega arith)
+carrier_in (n ∷ ns) zero k low = omega arith
+carrier_in (n ∷ ns) (suc c) k low = omega (arith, carrier_in ns c k low)
+
+-- ---- what is left
+
+struck_keeps : (b : Box) (c : ℕ) (gone : ℕ → Bool) (d k : ℕ) → sets.without b c gone d k ≡ true → b d k ≡ true
+struck_keeps b c gone d k here = (and_parts (b d k) _ here).0
+
+struck_none : (b : Box) (c : ℕ) (gone : ℕ → Bool) (k : ℕ) → sets.without b c gone c k ≡ true → gone k ≡ false
+struck_none b c gone k here = elim (cases_Bool (gone k)) [
+  | inr away ↦ away
+  | inl goes ↦ absurd (true≢false (sym here ∙ without_gone b c gone k goes))
+]
+
+struck_stays : (b : Box) (c : ℕ) (gone : ℕ → Bool) (d k : ℕ) → b d k ≡ true → gone k ≡ false → sets.without b c gone d k ≡ true
+struck_stays b c gone d k here stays = and_from (b d k) _ here (ap (λ (t : Bool). not ((d == c) && t)) stays ∙ left_in (d == c))
+  where
+    left_in : (t : Bool) → not (t && false) ≡ true
+    left_in true = refl
+    left_in false = refl
+
+-- the removal of what a condition `in` asks
+pub taken_inside : (b : Box) (cond : Cond) → cond.inside ≡ true → IsTaken b (sets.without b cond.carrier (between cond.lo cond.hi)) cond
+taken_inside b cond in_ = record {
+  fewer = struck_keeps b cond.carrier (between cond.lo cond.hi);
+  stays = λ k here unmet. struck_stays b cond.carrier (between cond.lo cond.hi) cond.carrier k here (sym (inside_is cond k in_) ∙ unmet);
+  none = λ k here. inside_is cond k in_ ∙ struck_none b cond.carrier (between cond.lo cond.hi) k here;
+}
+
+pub part_same : (b : Box) (cond : Cond) → IsPart b b cond
+part_same b cond = record { fewer = λ c k here. here; stays = λ k here unmet. here }
+
+-- the removal of a range of indices that meet the condition
+pub part_struck : (b : Box) (cond : Cond) (lo hi : ℕ) → ((k : ℕ) → between lo hi k ≡ true → is_met cond k ≡ true) → IsPart b (sets.without b cond.carrier (between lo hi)) cond
+part_struck b cond lo hi met = record {
+  fewer = struck_keeps b cond.carrier (between lo hi);
+  stays = λ k here unmet. struck_stays b cond.carrier (between lo hi) cond.carrier k here (elim (cases_Bool (between lo hi k)) [
+    | inr away ↦ away
+    | inl within ↦ absurd (true≢false (sym (met k within) ∙ unmet))
+  ]);
+}
+
+pub struck_gone : (b new : Box) (c lo hi : ℕ) → new ≡ sets.without b c (between lo hi) → (k : ℕ) → lo ≤ k → k ≤ hi → new c k ≡ false
+struck_gone b new c lo hi is k from to = ap (λ (f : Box). f c k) is ∙ without_gone b c (between lo hi) k (is_between lo hi k from to)
+
+pub part_by : (b new : Box) (cond : Cond) (lo hi : ℕ) → new ≡ sets.without b cond.carrier (between lo hi) → ((k : ℕ) → between lo hi k ≡ true → is_met cond k ≡ true) → IsPart b new cond
+part_by b new cond lo hi is met = subst (λ (x : Box). IsPart b x cond) (sym is) (part_struck b cond lo hi met)
+
+-- both sides are gone
+pub taken_outside : (old mid new : Box) (cond : Cond) → cond.inside ≡ false → IsPart old mid cond → IsPart mid new cond
+    → ((k : ℕ) → k < cond.lo → mid cond.carrier k ≡ false) → ((k : ℕ) → cond.hi < k → new cond.carrier k ≡ false) → IsTaken old new cond
+taken_outside old mid new cond out first second below above = record {
+  fewer = λ c k here. first.fewer c k (second.fewer c k here);
+  stays = λ k here unmet. second.stays k (first.stays k here unmet) unmet;
+  none = λ k here. outside_is cond k out ∙ ap not (is_between cond.lo cond.hi k
+      (elim (cases_lt k cond.lo) [
+        | inl low ↦ absurd (true≢false (sym (second.fewer cond.carrier k here) ∙ below k low))
+        | inr high ↦ omega arith
+      ])
+      (elim (cases_lt cond.hi k) [
+        | inl high ↦ absurd (true≢false (sym here ∙ above k high))
+        | inr low ↦ omega arith
+      ]));
+}
+
+pub taken_by : (b new : Box) (cond : Cond) → cond.inside ≡ true → new ≡ sets.without b cond.carrier (between cond.lo cond.hi) → IsTaken b new cond
+taken_by b new cond in_ is = subst (λ (x : Box). IsTaken b x cond) (sym is) (taken_inside b cond in_)
+
+-- the ranges that a condition asks
+pub met_below : (cond : Cond) → cond.inside ≡ false → (k : ℕ) → between 0 (cond.lo - 1) k ≡ true → (cond.lo ≡ 0 → ⊥) → is_met cond k ≡ true
+met_below cond out k within some = outside_is cond k out ∙ ap not (below_is cond.lo cond.hi k (let ends = ends_of 0 (cond.lo - 1) k within in omega (arith, ends.1, some)))
+
+pub met_above : (cond : Cond) (last : ℕ) → cond.inside ≡ false → (k : ℕ) → between (cond.hi + 1) last k ≡ true → is_met cond k ≡ true
+met_above cond last out k within = outside_is cond k out ∙ ap not (above_is cond.lo cond.hi k (let ends = ends_of (cond.hi + 1) last k within in omega (arith, ends.0)))
+
+pub met_inside : (cond : Cond) → cond.inside ≡ true → (k : ℕ) → between cond.lo cond.hi k ≡ true → is_met cond k ≡ true
+met_inside cond in_ k within = inside_is cond k in_ ∙ within
+
+-- a further removal of indices that meet the condition
+pub one_kept : (old new : Box) (conds : List Cond) (place : ℕ) (cond : Cond) → IsOneOpen old conds place cond
+    → IsPart old new cond → IsOneOpen new conds place cond
+one_kept old new conds place cond open_ part = record {
+  known = open_.known;
+  is = open_.is;
+  fails = (open_.fails.0, record { here = part.stays open_.fails.0 open_.fails.1.here open_.fails.1.unmet; unmet = open_.fails.1.unmet });
+  others = λ j d low other. record { each = λ k here. (open_.others j d low other).each k (part.fewer (slice_index_or conds j d).carrier k here) };
+}
+
+-- ---- blocked
+
+not_held : (b : Box) (cond : Cond) (k : ℕ) → IsUnmet b cond k → Holds b cond → ⊥
+not_held b cond k unmet held = true≢false (sym (held.each k unmet.here) ∙ unmet.unmet)
+
+pub two_done : (case : Case) (b : Box) (conds : List Cond) (i j : ℕ) → IsNextOpen b conds 0 i → IsNextOpen b conds (i + 1) j → IsDone case (members b) conds
+two_done case b conds i j first second = record {
+  blocked = λ living some.
+      let c = slice_index_or conds i none in
+      let d = slice_index_or conds j none in
+      two i j c d (omega (arith, second.later)) second.known (same_at conds i none c first.known) (same_at conds j none d second.known)
+      (λ held. not_held b c (first.fails none).0 (first.fails none).1 (record { each = held }))
+      (λ held. not_held b d (second.fails none).0 (second.fails none).1 (record { each = held }));
+}
+  where
+    none : Cond
+    none = record { carrier = 0; inside = true; lo = 0; hi = 0 }
+
+pub one_done : (case : Case) (old new : Box) (conds : List Cond) (place : ℕ) (cond : Cond) → IsOneOpen old conds place cond → IsTaken old new cond
+    → IsDone case (members new) conds
+one_done case old new conds place cond open_ taken = record {
+  blocked = λ living some.
+      let now = one_kept old new conds place cond open_ (record { fewer = taken.fewer; stays = taken.stays }) in
+      one place cond now.known now.is (λ held. not_held new cond now.fails.0 now.fails.1 (record { each = held }))
+      (λ j d low other. (now.others j d low other).each)
+      (λ k here met. true≢false (sym met ∙ taken.none k here));
+}
+
+-- nothing is left to a carrier whose range was struck whole
+pub wiped_all : (t : Trace) (old : Box) (c size : ℕ) → has_of t.counts t.entries ≡ sets.without old c (between 0 (size - 1)) → size_of t.counts c ≡ size → HasNone (box_of t) c
+wiped_all t old c size is sized k here =
+    let low : k < size_of t.counts c = has_size t.counts t.entries c k here in
+    true≢false (sym here ∙ struck_gone old (has_of t.counts t.entries) c 0 (size - 1) is k (omega arith) (omega (arith, low, sized)))
+
+pub none_there : (t : Trace) (c : ℕ) → size_of t.counts c ≡ 0 → HasNone (box_of t) c
+none_there t c none k here = absurd (omega (arith, has_size t.counts t.entries c k here, none))
+
+pub wiped_done : (case : Case) (b : ℕ → ℕ → Type 0) (conds : List Cond) (c : ℕ) → c < length (counts_of case) → HasNone b c → IsDone case b conds
+wiped_done case b conds c known none = record {
+  blocked = λ living some. let at = living c known in absurd (none at.0 at.1);
+}
+
+-- a case without carriers has nothing to block
+pub nothing_done : (case : Case) (b : ℕ → ℕ → Type 0) (conds : List Cond) → length (counts_of case) ≤ 0 → IsDone case b conds
+nothing_done case b conds few = record {
+  blocked = λ living some. absurd (omega (arith, few, some, length-map case.carriers (λ c. length c.freqs)));
+}
+
+-- what follows from what an Ok says
+pub on_ok : {A E P Q : Type 0} (r : Result A E) → OnOk r P → (P → Q) → OnOk r Q
+on_ok (Ok x) p f = f p
+on_ok (Err x) p f = p

@@ -1,0 +1,9 @@
+//! Nogood lines that were learned: where all conditions of a line but one hold, the indices that meet that one fall.
+#![tactic(auto)]
+
+mod held_line;
+mod nogoods;
+mod removal;
+mod sweep;
+
+pub use nogoods::Nogoods;

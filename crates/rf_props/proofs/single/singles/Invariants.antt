@@ -1,7 +1,0 @@
-use Rattle.rf_problem.specs.Problem.{case_of}
-use Rattle.rf_props.specs.Sweeps.{left}
-use Rattle.rf_props.proofs.SingleLemmas.{SinglesUpTo}
-use Rattle.rf_props.proofs.single.singles.Given as goal
-
-abbrev pub invariant-loop-i : goal.invariant-loop-i
-invariant-loop-i l = SinglesUpTo (case_of l.problem) (left l.trail) l.carriers l.i l.freqs
