@@ -17,5 +17,6 @@ pub mod OrderLemmas
 pub mod AlikeLemmas
 pub mod CutLemmas
 pub mod MergeLemmas
+pub mod OutsideLemmas
 pub mod RenewalLemmas
 pub mod CountLemmas

@@ -1,6 +1,6 @@
 -- An analysis is that of before without what a change touches, and what the change makes, in one order.
 use Rattle.std.proofs.Common.{◌≡◌, ℕ, Bool, true, false, List, [], ◌∷◌, ◌++◌, map, length, refl, ap, sym, ◌∙◌}
-use Rattle.std.specs.Prelude.{Option, filter, not, ◌&&◌, ◌||◌, ◌==◌}
+use Rattle.std.specs.Prelude.{Option, filter, nat_lt, not, ◌&&◌, ◌||◌, ◌==◌}
 use Rattle.std.specs.List.{flat_map}
 use Rattle.std.proofs.lemmas.Bool.{true≢false}
 use Rattle.std.proofs.lemmas.List.{append-nil, length-map}
@@ -8,6 +8,7 @@ use Rattle.std.proofs.lemmas.List.Elements.{filter-append}
 use Rattle.rf_terms.specs.Kinds.{kinds, roles_of}
 use Rattle.rf_terms.specs.declared.kind.Kind.{Kind}
 use Rattle.rf_terms.specs.declared.kind.Kind.TheVariants.{Spacing}
+use Rattle.rf_zones.specs.Masks.{has_bit}
 use Rattle.rf_show.specs.Show.{ShowData}
 use Rattle.rf_rules.specs.Tuples.{tuples, upto}
 use Rattle.rf_rules.specs.Instances.{ats_of, is_broken}
@@ -20,6 +21,7 @@ use Rattle.rf_rules.specs.Merges.{merge, stands_before}
 use Rattle.rf_rules.specs.Renewed.{Agrees, AnalysisIsRenewed, is_kept, number_of, precedes, renewed_of, roles_in}
 use Rattle.rf_rules.proofs.RisingLemmas.{IsRising, each-all, each-from, each-map, filter-empty, filter-made, flat-only, flat-same, map-same, merge-filters, rising-along}
 use Rattle.rf_rules.proofs.OrderLemmas.{tuples-long, tuples-rise}
+use Rattle.rf_rules.proofs.OutsideLemmas.{tuples-same}
 use Rattle.rf_rules.proofs.AlikeLemmas.{broken-alike, conflict-alike, of-made, of-own, roles-made}
 
 -- ---- of an analysis, the instances of one kind
@@ -71,6 +73,10 @@ alike-at : (p q m : Bool) → (m ≡ false → p ≡ q) → (p && not m) ≡ (q 
 alike-at p q true h = and-false p ∙ sym (and-false q)
 alike-at p q false h = ap (λ b. b && true) (h refl)
 
+met-out : (p m : Bool) → m ≡ true → (p && not m) ≡ false
+met-out p true h = and-false p
+met-out p false h = absurd (true≢false (sym h))
+
 out-at : (p m : Bool) → (p && not m) ≡ true → m ≡ false
 out-at p true h = absurd (true≢false (sym h ∙ and-false p))
 out-at p false h = refl
@@ -95,7 +101,8 @@ touched-apart show ats kind mask t = apart (is_broken show ats kind t) (meets ma
 
 kept-same : (mask : ℕ) (old new : ShowData) (kind : Kind) → Agrees mask old new → filter (is_kept kind mask) (conflicts_of old (ats_of old) kind) ≡ map (conflict_of new (ats_of new) kind) (filter (λ t. is_broken new (ats_of new) kind t && not (meets mask t)) (tuples (roles_of kind) (upto (length (ats_of new)))))
 kept-same mask old new kind a =
-    let n : length (ats_of old) ≡ length (ats_of new) = length-map old.carriers (λ c. c.at) ∙ a.carriers ∙ sym (length-map new.carriers (λ c. c.at)) in
+    let many : (c : ℕ) → has_bit mask c ≡ false → nat_lt c (length (ats_of old)) ≡ nat_lt c (length (ats_of new)) =
+    λ c o. ap (nat_lt c) (length-map old.carriers (λ x. x.at)) ∙ a.carriers c o ∙ sym (ap (nat_lt c) (length-map new.carriers (λ x. x.at))) in
     let k = roles_of kind in
     let before = conflict_of old (ats_of old) kind in
     let now = conflict_of new (ats_of new) kind in
@@ -105,7 +112,7 @@ kept-same mask old new kind a =
     let olds = tuples k (upto (length (ats_of old))) in
     let ts = tuples k (upto (length (ats_of new))) in
     filter-made (is_kept kind mask) before was out olds (each-from (λ t. length t ≡ k) _ olds (λ t h e. kept-by old kind mask t h) (tuples-long k (upto (length (ats_of old)))))
-    ∙ ap (λ j. map before (filter (λ t. was t && out t) (tuples k (upto j)))) n
+    ∙ ap (map before) (tuples-same mask (length (ats_of old)) (length (ats_of new)) (λ t. was t && out t) k many (λ t h. met-out (was t) (meets mask t) h))
     ∙ map-same before now (λ t. was t && out t) (λ t. is t && out t) ts (each-from (λ t. length t ≡ k) _ ts
     (λ t h. (alike-at (was t) (is t) (meets mask t) (λ e. broken-alike mask old new kind t a h e), λ e. conflict-alike mask old new kind t a h (out-at (was t) (meets mask t) e)))
     (tuples-long k (upto (length (ats_of new)))))

@@ -1,5 +1,5 @@
 -- What of an analysis stays where some carriers change. A mask has a bit for each of them.
-use Rattle.std.specs.Prelude.{◌≡◌, ◌-◌, ℕ, Bool, false, not, ◌&&◌, ◌==◌, ◌++◌, List, [], ◌∷◌, filter, length, take}
+use Rattle.std.specs.Prelude.{◌≡◌, ◌-◌, ℕ, Bool, false, not, ◌&&◌, ◌==◌, nat_lt, ◌++◌, List, [], ◌∷◌, filter, length, take}
 use Rattle.std.specs.List.{flat_map}
 use Rattle.rf_terms.specs.Kinds.{kinds, roles_of}
 use Rattle.rf_terms.specs.declared.kind.Kind.{Kind}
@@ -44,9 +44,9 @@ precedes kind c d = stands_before (roles_in kind c) (roles_in kind d)
 abbrev pub is_kept : Kind → ℕ → Conflict → Bool
 is_kept kind mask c = is_of kind c && not (meets mask (roles_in kind c))
 
--- two shows agree on all carriers that are not of a mask
+-- two shows agree on all carriers that are not of a mask: both have such a carrier or none, and what is asked of it is the same
 pub record Agrees (mask : ℕ) (old new : ShowData) : Type 0 where
-  pub carriers : length old.carriers ≡ length new.carriers
+  pub carriers : (c : ℕ) → has_bit mask c ≡ false → nat_lt c (length old.carriers) ≡ nat_lt c (length new.carriers)
   pub at : (c : ℕ) → has_bit mask c ≡ false → at_in (ats_of old) c ≡ at_in (ats_of new) c
   pub asked : (kind : Kind) (c : ℕ) → has_bit mask c ≡ false → asked old kind c ≡ asked new kind c
   pub joined : (size : ℕ) (t : List ℕ) → meets mask t ≡ false → are_joined old size t ≡ are_joined new size t

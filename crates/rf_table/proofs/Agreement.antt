@@ -1,9 +1,9 @@
 -- Shows in which carriers are alike agree on them.
-use Rattle.std.proofs.Common.{◌≡◌, ◌<◌, ℕ, suc, zero, Bool, true, false, List, [], ◌∷◌, map, length, get_or, refl, ap, sym, ◌∙◌, arith, inl, inr}
-use Rattle.std.specs.Prelude.{Option, Some, None, ◌&&◌, ◌||◌, nat_lt, slice_get, find, unwrap_or}
+use Rattle.std.proofs.Common.{◌≡◌, ◌≤◌, ◌<◌, ℕ, suc, zero, Bool, true, false, List, [], ◌∷◌, map, length, get_or, refl, ap, sym, ◌∙◌, arith}
+use Rattle.std.specs.Prelude.{Option, Some, None, ◌&&◌, ◌||◌, nat_lt, is_some, slice_get, find, unwrap_or}
 use Rattle.std.specs.List.{list_all, position}
 use Rattle.std.specs.Option.{option_and_then, option_map_or}
-use Rattle.std.proofs.lemmas.Bool.{cases_lt, true≢false}
+use Rattle.std.proofs.lemmas.Bool.{true≢false}
 use Rattle.std.proofs.lemmas.Bool.Decides.{nat_tests}
 use Rattle.std.proofs.lemmas.Option.{slice_get_past}
 use Rattle.std.proofs.lemmas.List.Quantifiers.{position-Some}
@@ -20,7 +20,7 @@ use Rattle.rf_show.specs.Show.{ShowData, is_profile, zone_number}
 use Rattle.rf_show.specs.Query.{all_meet, are_joined, asked, meet, meet_at}
 use Rattle.rf_rules.specs.Touched.{meets}
 use Rattle.rf_rules.specs.Renewed.{Agrees}
-use Rattle.rf_table.specs.Unchanged.{AreAlike, SameZones, Unchanged}
+use Rattle.rf_table.specs.Unchanged.{AreAlike, SameAt, SameZones, Unchanged}
 
 or-parts : (a b : Bool) → (a || b) ≡ false → (a ≡ false) × (b ≡ false)
 or-parts true b h = absurd (true≢false h)
@@ -54,24 +54,31 @@ coupling-same old new n m h =
 
 -- ---- carriers
 
-alike-at : (mask : ℕ) (old new : ShowData) (c : ℕ) → Unchanged mask old new → has_bit mask c ≡ false → AreAlike (slice_get old.carriers c) (slice_get new.carriers c)
-alike-at mask old new c u h =
-    elim (cases_lt c (length old.carriers)) [
-      | inl p ↦ (u.same c p h).alike
-      | inr p ↦ let a : slice_get old.carriers c ≡ None = slice_get_past old.carriers c p in
-          let b : slice_get new.carriers c ≡ None = slice_get_past new.carriers c (omega (arith, p, u.carriers)) in
-          rw (a, b) tt
-    ]
-
 asked-none : (show : ShowData) (kind : Kind) (c : ℕ) → slice_get show.carriers c ≡ None → asked show kind c ≡ 0
 asked-none show kind c e = ap (λ o. option_map_or (λ p. profile.margin_of p kind) (option_and_then (λ (x : Carrier). find (is_profile x.profile) show.profiles) o) 0) e
 
-asked-at : (mask : ℕ) (old new : ShowData) (kind : Kind) (c : ℕ) → Unchanged mask old new → has_bit mask c ≡ false → asked old kind c ≡ asked new kind c
-asked-at mask old new kind c u h =
-    elim (cases_lt c (length old.carriers)) [
-      | inl p ↦ (u.same c p h).asked kind
-      | inr p ↦ asked-none old kind c (slice_get_past old.carriers c p) ∙ sym (asked-none new kind c (slice_get_past new.carriers c (omega (arith, p, u.carriers))))
-    ]
+-- where neither show has a carrier, it stays
+pub past-both : (old new : ShowData) (c : ℕ) → length old.carriers ≤ c → length new.carriers ≤ c → SameAt old new c
+past-both old new c p q =
+    let a : slice_get old.carriers c ≡ None = slice_get_past old.carriers c p in
+    let b : slice_get new.carriers c ≡ None = slice_get_past new.carriers c q in
+    record {
+      alike = rw (a, b) tt;
+      asked = λ kind. asked-none old kind c a ∙ sym (asked-none new kind c b);
+    }
+
+there-get : (cs : List Carrier) (c : ℕ) → nat_lt c (length cs) ≡ is_some (slice_get cs c)
+there-get [] c = grind (arith, nat_tests)
+there-get (x ∷ cs) zero = grind (arith, nat_tests)
+there-get (x ∷ cs) (suc c) =
+    let e : nat_lt (suc c) (length (x ∷ cs)) ≡ nat_lt c (length cs) = grind (arith, nat_tests) in
+    e ∙ there-get cs c
+
+there-same : (a b : Option Carrier) → AreAlike a b → is_some a ≡ is_some b
+there-same None None h = refl
+there-same (Some a) (Some b) h = refl
+there-same None (Some b) h = absurd h
+there-same (Some a) None h = absurd h
 
 -- ---- frequencies
 
@@ -129,13 +136,13 @@ unfolding share_minute
 minute-same mask old new t u h =
     some-same 10080 (λ minute. list_all (on_at (map (λ x. x.times) old.carriers) minute) t) (λ minute. list_all (on_at (map (λ x. x.times) new.carriers) minute) t)
     (λ minute. all-out mask (on_at (map (λ x. x.times) old.carriers) minute) (on_at (map (λ x. x.times) new.carriers) minute) t h
-    (λ c o. on-get old.carriers minute c ∙ on-same minute (slice_get old.carriers c) (slice_get new.carriers c) (alike-at mask old new c u o) ∙ sym (on-get new.carriers minute c)))
+    (λ c o. on-get old.carriers minute c ∙ on-same minute (slice_get old.carriers c) (slice_get new.carriers c) (u.same c o).alike ∙ sym (on-get new.carriers minute c)))
 
 meets-same : (mask size : ℕ) (old new : ShowData) (t : List ℕ) → Unchanged mask old new → meets mask t ≡ false → all_meet size old.zones old.carriers t ≡ all_meet size new.zones new.carriers t
 meets-same mask size old new t u h =
     all-out mask (λ a. list_all (λ b. meet_at size old.zones old.carriers a b) t) (λ a. list_all (λ b. meet_at size new.zones new.carriers a b) t) t h
     (λ a o. all-out mask (meet_at size old.zones old.carriers a) (meet_at size new.zones new.carriers a) t h
-    (λ b q. meet-same size old.zones new.zones (slice_get old.carriers a) (slice_get new.carriers a) (slice_get old.carriers b) (slice_get new.carriers b) u.zones (alike-at mask old new a u o) (alike-at mask old new b u q)))
+    (λ b q. meet-same size old.zones new.zones (slice_get old.carriers a) (slice_get new.carriers a) (slice_get old.carriers b) (slice_get new.carriers b) u.zones (u.same a o).alike (u.same b q).alike))
 
 joined-same : (mask size : ℕ) (old new : ShowData) (t : List ℕ) → Unchanged mask old new → meets mask t ≡ false → are_joined old size t ≡ are_joined new size t
 unfolding are_joined
@@ -145,8 +152,8 @@ joined-same mask size old new t u h =
 
 pub unchanged-agrees : (mask : ℕ) (old new : ShowData) → Unchanged mask old new → Agrees mask old new
 unchanged-agrees mask old new u = record {
-  carriers = u.carriers;
-  at = λ c o. at-get old.carriers c ∙ at-same (slice_get old.carriers c) (slice_get new.carriers c) (alike-at mask old new c u o) ∙ sym (at-get new.carriers c);
-  asked = λ kind c o. asked-at mask old new kind c u o;
+  carriers = λ c o. there-get old.carriers c ∙ there-same (slice_get old.carriers c) (slice_get new.carriers c) (u.same c o).alike ∙ sym (there-get new.carriers c);
+  at = λ c o. at-get old.carriers c ∙ at-same (slice_get old.carriers c) (slice_get new.carriers c) (u.same c o).alike ∙ sym (at-get new.carriers c);
+  asked = λ kind c o. (u.same c o).asked kind;
   joined = λ size t h. joined-same mask size old new t u h;
 }

@@ -18,7 +18,7 @@ AreAlike None None = Unit {0}
 AreAlike (Some a) (Some b) = IsAlike a b
 AreAlike _ _ = ⊥
 
--- a carrier stays as it was, and asks the same
+-- a carrier stays as it was, and asks the same; or neither show has it
 pub record SameAt (old new : ShowData) (c : ℕ) : Type 0 where
   pub alike : AreAlike (slice_get old.carriers c) (slice_get new.carriers c)
   pub asked : (kind : Kind) → asked old kind c ≡ asked new kind c
@@ -33,8 +33,7 @@ pub record SameZones (old new : ZonesData) : Type 0 where
   pub count : length old.names ≡ length new.names
   pub each : (z : ℕ) → z < length old.names → SameZone old new z
 
--- two shows have the same zones and as many carriers, and those that are not of a mask are alike and ask the same
+-- two shows have the same zones, and each carrier that is not of a mask is alike in both and asks the same, or is in neither
 pub record Unchanged (mask : ℕ) (old new : ShowData) : Type 0 where
   pub zones : SameZones old.zones new.zones
-  pub carriers : length old.carriers ≡ length new.carriers
-  pub same : (c : ℕ) → c < length old.carriers → has_bit mask c ≡ false → SameAt old new c
+  pub same : (c : ℕ) → has_bit mask c ≡ false → SameAt old new c

@@ -78,9 +78,6 @@ fn next(alloc: Global, old: &Show, before: &Analysis, new: &Show) -> Result<Anal
     requires { before.now ≡ analysed old.now }
     ensures { IfOk result (λ analysis. analysis ≡ analysed new.now) }
 {
-    if old.carriers().len() != new.carriers().len() {
-        return analyse(alloc, new);
-    }
     if !same_zones(old.zones(), new.zones()) {
         return analyse(alloc, new);
     }
