@@ -1,7 +1,6 @@
 -- Lists of carriers that have none of a mask are the same among more carriers, where those that are more are of the mask.
 use Rattle.std.proofs.Common.{◌≡◌, ◌≤◌, ◌<◌, ℕ, suc, zero, Bool, true, false, List, [], ◌∷◌, ◌++◌, map, refl, ap, sym, ◌∙◌, arith, inl, inr}
 use Rattle.std.specs.Prelude.{filter, not, ◌||◌, nat_lt}
-use Rattle.std.specs.List.{flat_map}
 use Rattle.std.proofs.lemmas.Bool.{cases_lt, true≢false}
 use Rattle.std.proofs.lemmas.Bool.Decides.{nat_tests}
 use Rattle.std.proofs.lemmas.List.{append-nil}
@@ -9,7 +8,7 @@ use Rattle.std.proofs.lemmas.List.Elements.{filter-append}
 use Rattle.rf_zones.specs.Masks.{has_bit}
 use Rattle.rf_rules.specs.Tuples.{tuples, upto}
 use Rattle.rf_rules.specs.Touched.{meets}
-use Rattle.rf_rules.proofs.TupleLemmas.{tuples-suc, tuples-zero, upto-zero}
+use Rattle.rf_rules.proofs.TupleLemmas.{tuples-suc, tuples-zero}
 use Rattle.rf_rules.proofs.GroupLemmas.{filter-flat_map}
 use Rattle.rf_rules.proofs.RisingLemmas.{each-all, each-map, filter-empty, flat-only, flat-same}
 
