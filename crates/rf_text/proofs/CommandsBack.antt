@@ -1,11 +1,12 @@
 -- The line of a command is read back as the command.
-use Rattle.std.proofs.Common.{◌≡◌, ℕ, List, [], ◌∷◌, Bool, true, false, refl, rules, Some, None, Ok, subst}
-use Rattle.std.specs.Prelude.{IfSome, find, if◌then◌else◌, option_and_then, option_map, ok_or}
+use Rattle.std.proofs.Common.{◌≡◌, ◌≤◌, ◌+◌, ◌++◌, ℕ, List, [], ◌∷◌, Bool, true, false, length, length-append, arith, refl, rules, Some, None, Ok, subst}
+use Rattle.std.specs.Prelude.{IfSome, find, nat_le, if◌then◌else◌, option_and_then, option_map, ok_or}
 use Rattle.std.specs.declared.option.Option.{Option}
+use Rattle.std.proofs.lemmas.Bool.Decides.{nat_tests}
 use Rattle.std.proofs.lemmas.Option.{IfSome_then}
 use Rattle.std.specs.List.{AllByRecursion, list_all}
 use Rattle.std.specs.Str.{bytes_eq}
-use Rattle.rf_base.specs.Lines.{joined}
+use Rattle.rf_base.specs.Lines.{joined, spaced}
 use Rattle.rf_show.specs.After.{is_edit}
 use Rattle.rf_text.specs.declared.command.Command.{Command}
 use Rattle.rf_text.specs.declared.command.Command.TheVariants.{Change}
@@ -16,10 +17,14 @@ use Rattle.rf_text.specs.Shapes.{Row, Values, made, row_of, row_read, values}
 use Rattle.rf_text.specs.Words.{is_word}
 use Rattle.rf_text.specs.Words.{words_of as words_in}
 use Rattle.rf_text.proofs.OperandsBack.{if_map}
+use Rattle.rf_text.proofs.RoomLemmas.{room, values_room}
 use Rattle.rf_text.proofs.ShapesBack.{AreValues, values_back, values_read, words_of}
 use Rattle.rf_text.proofs.WordsBack.{words_back}
 
 -- ---- rows
+
+le_of : (a b : ℕ) → nat_le a b ≡ true → a ≤ b
+le_of a b h = grind (arith, nat_tests)
 
 made_back : {Made : Type 0} (row : Row Made) (w : Values row.shape) → AreValues row.shape w → row_read row (words_of row.shape w) ≡ Some (made row w)
 made_back row w h = let back = values_back row.shape w h in rw back.read refl
@@ -46,12 +51,12 @@ abbrev is_askable : Command → Bool
 is_askable (Change edit) = is_edit edit
 is_askable _ = true
 
--- A row is found by its first word, and what it makes is written as the row says and can be asked of a show.
+-- A row is found by its first word, and what it makes is written as the row says, in one line, and can be asked of a show.
 abbrev IsLine : {Made : Type 0} → (Made → Command) → (Option Made → Option Command) → Row Made → Type 0
 IsLine command read row =
     ((operands : List (List ℕ)) → command_by row.verb operands ≡ read (row_read row operands)) × ((is_word row.verb ≡ true)
     × (((w : Values row.shape) → command_words (command (made row w)) ≡ row.verb ∷ words_of row.shape w)
-    × ((w : Values row.shape) → is_askable (command (made row w)) ≡ true)))
+    × (((w : Values row.shape) → is_askable (command (made row w)) ≡ true) × (nat_le (length row.verb + room row.shape) 4096 ≡ true))))
 
 edits : AllByRecursion (IsLine Change (option_map Change)) edit_rows
 edits = search rules
@@ -61,14 +66,21 @@ commands = search rules
 
 -- ---- all commands
 
--- a command that is read back from its words
+-- a command that is read back from its words, which fit into a line
 pub record IsBack (command : Command) : Type 0 where
   pub read : command_with (command_words command) ≡ Some command
   pub valid : list_all is_word (command_words command) ≡ true
+  pub fits : length (command_text_of command) ≤ 4096
 
 -- what holds of each command that a row can make
 abbrev Makes : {Made : Type 0} → (Command → Type 0) → (Made → Command) → Row Made → Type 0
 Makes P command row = (w : Values row.shape) → AreValues row.shape w → P (command (made row w))
+
+verb_fits : (verb operands : List ℕ) (most : ℕ) → length operands ≤ most → nat_le (length verb + most) 4096 ≡ true → length (verb ++ operands) ≤ 4096
+verb_fits verb operands most h few =
+    let long = length-append verb operands in
+    let within : length verb + most ≤ 4096 = le_of (length verb + most) 4096 few in
+    omega (arith, long)
 
 line_back : {Made : Type 0} (command : Made → Command) (read : Option Made → Option Command) → ((x : Made) → read (Some x) ≡ Some (command x))
     → (row : Row Made) → IsLine command read row → Makes IsBack command row
@@ -78,6 +90,7 @@ line_back command read same row line w h =
     record {
       read = rw (words, line.0 (words_of row.shape w), made_back row w h) (same (made row w));
       valid = rw (words, line.1.0, back.valid) refl;
+      fits = rw words (verb_fits row.verb (spaced (words_of row.shape w)) (room row.shape) (values_room row.shape w h) line.1.1.1.1);
     }
 
 edits_back : AllByRecursion (Makes IsBack Change) edit_rows
@@ -128,8 +141,8 @@ askable _ h = tt
 -- what a line says can be asked of a show
 pub line_askable : (line : List ℕ) (command : Command) → Some command ≡ command_in line → IsAskable command
 line_askable line command is =
-    let all = of_line IsAskable (all_then (IsLine Change (option_map Change)) (Makes IsAskable Change) edit_rows (λ row line w _. askable (Change (made row w)) (line.1.1.1 w)) edits)
-    (all_then (IsLine (λ command. command) (λ read. read)) (Makes IsAskable (λ command. command)) command_rows (λ row line w _. askable (made row w) (line.1.1.1 w)) commands) line in
+    let all = of_line IsAskable (all_then (IsLine Change (option_map Change)) (Makes IsAskable Change) edit_rows (λ row line w _. askable (Change (made row w)) (line.1.1.1.0 w)) edits)
+    (all_then (IsLine (λ command. command) (λ read. read)) (Makes IsAskable (λ command. command)) command_rows (λ row line w _. askable (made row w) (line.1.1.1.0 w)) commands) line in
     rw (← is) at all
 
 from_ok : (P : Command → Type 0) (o : Option Command) (e : UnknownLine) (command : Command) → IfSome o P → ok_or o e ≡ Ok command → P command

@@ -8,11 +8,13 @@ pub mod OperandLemmas
 pub mod OperandsBack
 pub mod PlaceLemmas
 pub mod ProfilesMade
+pub mod RoomLemmas
 pub mod RunLemmas
 pub mod SeparatorsBack
 pub mod ShapesBack
 pub mod ShowLemmas
 pub mod ShowMade
+pub mod TextLines
 pub mod TextualLemmas
 pub mod WordLemmas
 pub mod WordsBack

@@ -10,7 +10,7 @@ use Rattle.rf_base.specs.Khz.{IsKhz}
 use Rattle.rf_base.specs.Name.{IsName}
 use Rattle.rf_exclusions.specs.declared.scan_set.ScanSet.{ScanSet}
 use Rattle.rf_profiles.specs.Channels.{RisesFrom}
-use Rattle.rf_profiles.specs.Profile.{is_width, widths}
+use Rattle.rf_profiles.specs.Profile.{widths}
 use Rattle.rf_profiles.specs.Range.{IsRange, Span}
 use Rattle.rf_profiles.specs.declared.profile.Profile.{Profile}
 use Rattle.rf_zones.specs.Times.{is_interval}
@@ -18,20 +18,19 @@ use Rattle.rf_zones.specs.Zones.{ZonesData}
 use Rattle.rf_zones.specs.declared.coupling.Coupling.{Coupling}
 use Rattle.rf_zones.specs.declared.coupling.Coupling.TheVariants.{Apart, Coupled, Far}
 use Rattle.rf_show.specs.declared.carrier.Carrier.{Carrier}
-use Rattle.rf_show.specs.Limits.{widest_scan}
-use Rattle.rf_show.specs.Show.{ShowData, first_show, has_zone, is_scan, is_threshold}
+use Rattle.rf_show.specs.Limits.{widest, widest_scan}
+use Rattle.rf_show.specs.Show.{ShowData, first_show, has_zone, is_narrow, is_scan, is_threshold}
 use Rattle.rf_text.specs.declared.command.Command.{Command}
 use Rattle.rf_text.specs.declared.command.Command.TheVariants.{Change}
 use Rattle.rf_text.specs.Commands.{command_in, command_with}
 use Rattle.rf_text.specs.CommandTexts.{command_text_of, command_words}
 use Rattle.rf_base.specs.Lines.{joined}
-use Rattle.rf_text.specs.ShowLaw.{HotPointsOf, IsBan, IsCarrier, IsProfile, IsScan, IsShowOver, LinesMakeShow, after_command, after_lines}
+use Rattle.rf_text.specs.ShowLaw.{HotPointsOf, IsBan, IsCarrier, IsProfile, IsScan, IsWhole, LinesMakeShow, after_command, after_lines}
 use Rattle.rf_text.specs.Shows.{at_lines, carrier_lines, couple_lines, coupling_edit, far_lines, lock_lines, pair_line, pairs_that, pairs_with, profile_lines, range_line, ranges_lines, scan_line, show_lines, stand, time_line, zone_line, zone_name, ban_line}
 use Rattle.rf_text.specs.Words.{is_word}
 use Rattle.rf_text.proofs.CommandsBack.{IsBack, command_row_back, edit_back}
 use Rattle.rf_text.proofs.ShapesBack.{AreShort, IsFiled, IsNamed, IsShort}
 use Rattle.rf_text.proofs.MadeLemmas.{made}
-use Rattle.rf_text.proofs.ProfilesMade.{is_worded}
 use Rattle.rf_text.proofs.ShowMade.{commands_make_show, kept_of}
 use Rattle.rf_text.proofs.WordsBack.{words_back}
 
@@ -129,43 +128,43 @@ pairs_said c zones names =
     all_flat (λ a. a < length zones.names) IsBack (pairs_with c zones) (range_with_len 0 (length zones.names)) (all_range 0 (length zones.names) (length zones.names) (omega arith))
     (pairs_with_said c zones names)
 
-widths_short : (ns : List ℕ) → list_all is_width ns ≡ true → AreShort ns
+widths_short : (ns : List ℕ) → list_all (λ n. nat_le n widest) ns ≡ true → AreShort ns
 widths_short [] h = tt
-widths_short (n ∷ ns) h = let p = and_parts (is_width n) (list_all is_width ns) h in (omega (arith, le_of n 100000 p.0), widths_short ns p.1)
+widths_short (n ∷ ns) h = let p = and_parts (nat_le n widest) (list_all (λ n. nat_le n widest) ns) h in (omega (arith, le_of n widest p.0), widths_short ns p.1)
 
 rises_all : (last : ℕ) (ranges : List Span) → RisesFrom last ranges → AllByRecursion IsRange ranges
 rises_all last [] h = tt
 rises_all last (r ∷ ranges) h = (h.0, rises_all r.to ranges h.2)
 
-ranges_said : (p : Profile) (ranges : List Span) → IsName p.name → is_worded p ≡ true → AllByRecursion IsRange ranges → AllByRecursion IsBack (ranges_lines p ranges)
-ranges_said p [] name worded h = tt
-ranges_said p (r ∷ ranges) name worded h = (
-  edit_back (codes "profile") (p.name, r.from ∷ r.to ∷ r.step ∷ widths p) (named p.name name, (refl, (short r.from h.0.low, (short r.to h.0.high, (short r.step h.0.stride, widths_short (widths p) worded))))),
+ranges_said : (p : Profile) (ranges : List Span) → IsName p.name → is_narrow p ≡ true → AllByRecursion IsRange ranges → AllByRecursion IsBack (ranges_lines p ranges)
+ranges_said p [] name narrow h = tt
+ranges_said p (r ∷ ranges) name narrow h = (
+  edit_back (codes "profile") (p.name, r.from ∷ r.to ∷ r.step ∷ widths p) (named p.name name, (refl, (short r.from h.0.low, (short r.to h.0.high, (short r.step h.0.stride, widths_short (widths p) narrow))))),
   all_map IsRange IsBack (range_line p.name) ranges h.1 (λ q v. edit_back (codes "range") (p.name, (q.from, (q.to, q.step))) (named p.name name, (short q.from v.low, (short q.to v.high, short q.step v.stride)))),
 )
 
-profiles_said : (profiles : List Profile) → list_all is_worded profiles ≡ true → AllByRecursion IsProfile profiles → AllByRecursion IsBack (flat_map profile_lines profiles)
-profiles_said [] worded h = tt
-profiles_said (p ∷ profiles) worded h =
-    let n = and_parts (is_worded p) (list_all is_worded profiles) worded in
+profiles_said : (profiles : List Profile) → list_all is_narrow profiles ≡ true → AllByRecursion IsProfile profiles → AllByRecursion IsBack (flat_map profile_lines profiles)
+profiles_said [] narrow h = tt
+profiles_said (p ∷ profiles) narrow h =
+    let n = and_parts (is_narrow p) (list_all is_narrow profiles) narrow in
     all_both IsBack (profile_lines p) (flat_map profile_lines profiles) (ranges_said p p.channels h.0.0 n.0 (rises_all 0 p.channels h.0.1.rising)) (profiles_said profiles n.1 h.1)
 
 if_named : (zone : Option (List ℕ)) → IfSome zone IsName → IfSome zone IsNamed
 if_named None h = tt
 if_named (Some zone) h = named zone h
 
-scan_said : (zones : ZonesData) (hot : HotPointsOf) (scan : ScanSet) → is_scan zones scan ≡ true → IsScan hot scan → IsBack (scan_line scan)
-scan_said zones hot scan valid h =
+scan_said : (zones : ZonesData) (scan : ScanSet) → is_scan zones scan ≡ true → IsScan scan → IsBack (scan_line scan)
+scan_said zones scan valid h =
     let p = and_parts (has_zone zones scan.zone && is_threshold scan.threshold) (nat_le scan.width widest_scan) valid in
     let q = and_parts (has_zone zones scan.zone) (is_threshold scan.threshold) p.0 in
     command_row_back (codes "scan") (scan.file, (scan.zone, (scan.threshold, (scan.width, scan.sep))))
     (filed scan.file h.file, (named scan.zone h.zone, (omega (arith, le_of _ _ q.1), (omega (arith, le_of scan.width widest_scan p.1), tt))))
 
-scans_said : (zones : ZonesData) (hot : HotPointsOf) (scans : List ScanSet) → list_all (is_scan zones) scans ≡ true → AllByRecursion (IsScan hot) scans → AllByRecursion IsBack (map scan_line scans)
-scans_said zones hot [] valid h = tt
-scans_said zones hot (scan ∷ scans) valid h =
+scans_said : (zones : ZonesData) (scans : List ScanSet) → list_all (is_scan zones) scans ≡ true → AllByRecursion IsScan scans → AllByRecursion IsBack (map scan_line scans)
+scans_said zones [] valid h = tt
+scans_said zones (scan ∷ scans) valid h =
     let p = and_parts (is_scan zones scan) (list_all (is_scan zones) scans) valid in
-    (scan_said zones hot scan p.0 h.0, scans_said zones hot scans p.1 h.1)
+    (scan_said zones scan p.0 h.0, scans_said zones scans p.1 h.1)
 
 times_said : (name : List ℕ) (times : List (ℕ × ℕ)) → IsNamed name → list_all is_interval times ≡ true → AllByRecursion IsBack (map (time_line name) times)
 times_said name [] n h = tt
@@ -192,16 +191,16 @@ carrier_said c h =
           (all_both IsBack (at_lines c.name c.at) (lock_lines c.name c.locked) (at_said c.name c.at n h.at) (lock_said c.name c.locked n)),
     )
 
-show_said : (hot : HotPointsOf) (show : ShowData) → IsShowOver hot show → AllByRecursion IsBack (show_lines show)
-show_said hot show w =
+pub show_said : (show : ShowData) → IsWhole show → AllByRecursion IsBack (show_lines show)
+show_said show w =
     let k = kept_of show w.kept in
     all_both IsBack (map zone_line (drop 1 show.zones.names)) _ (zones_said show.zones w.zone_names)
     (all_both IsBack (couple_lines show.zones) _ (pairs_said Coupled show.zones w.zone_names)
     (all_both IsBack (far_lines show.zones) _ (pairs_said Far show.zones w.zone_names)
-    (all_both IsBack (flat_map profile_lines show.profiles) _ (profiles_said show.profiles w.textual w.profiles)
+    (all_both IsBack (flat_map profile_lines show.profiles) _ (profiles_said show.profiles k.narrow w.profiles)
     (all_both IsBack (map ban_line show.bans) _ (all_map IsBan IsBack ban_line show.bans w.bans (λ b h. edit_back (codes "ban") (b.lo, (b.hi, b.zone)) (short b.lo h.low, (short b.hi h.high, if_named b.zone h.zone))))
-    (all_both IsBack (map scan_line show.scans) (flat_map carrier_lines show.carriers) (scans_said show.zones hot show.scans k.scans w.scans)
+    (all_both IsBack (map scan_line show.scans) (flat_map carrier_lines show.carriers) (scans_said show.zones show.scans k.scans w.scans)
     (all_flat IsCarrier IsBack carrier_lines show.carriers w.carriers carrier_said))))))
 
 pub lines_make : LinesMakeShow
-lines_make hot show w = lines_read hot first_show (show_lines show) (show_said hot show w) ∙ commands_make_show hot show w
+lines_make hot show w = lines_read hot first_show (show_lines show) (show_said show w.whole) ∙ commands_make_show hot show w

@@ -14,7 +14,7 @@ use Rattle.rf_show.specs.After.{after}
 use Rattle.rf_show.specs.Limits.{most_bans, most_scans, widest_scan}
 use Rattle.rf_show.specs.Show.{ShowData, has_zone, has_zone_or_all, is_ban, is_scan, is_threshold}
 use Rattle.rf_text.specs.declared.command.Command.{Command}
-use Rattle.rf_text.specs.ShowLaw.{HotPointsOf, IsBan, IsScan, after_command}
+use Rattle.rf_text.specs.ShowLaw.{HasPoints, HotPointsOf, IsBan, after_command}
 use Rattle.rf_text.specs.Shows.{ban_line, scan_line}
 
 -- ---- commands one after another
@@ -69,7 +69,7 @@ scan_step s scan valid room =
     let q = and_parts (has_zone s.zones scan.zone) (is_threshold scan.threshold) p.0 in
     rw (q.0, q.1, p.1, fits_not (length s.scans) most_scans room) refl
 
-pub scans_made : (hot : HotPointsOf) (s : ShowData) (done rest : List ScanSet) → list_all (is_scan s.zones) rest ≡ true → AllByRecursion (IsScan hot) rest
+pub scans_made : (hot : HotPointsOf) (s : ShowData) (done rest : List ScanSet) → list_all (is_scan s.zones) rest ≡ true → AllByRecursion (HasPoints hot) rest
     → length done + length rest ≤ most_scans → made hot (record s { scans = done }) (map scan_line rest) ≡ Some (record s { scans = done ++ rest })
 scans_made hot s done [] valid over room = rw append-nil refl
 scans_made hot s done (scan ∷ rest) valid over room =
@@ -77,4 +77,4 @@ scans_made hot s done (scan ∷ rest) valid over room =
     let step = scan_step (record s { scans = done }) scan p.0 (omega arith) in
     let long = length-append done (scan ∷ []) in
     let more = scans_made hot s (done ++ scan ∷ []) rest p.1 over.1 (omega (arith, long)) in
-    rw (over.0.points, step) (rw append_assoc at more)
+    rw (over.0, step) (rw append_assoc at more)

@@ -26,6 +26,7 @@ le_of a b h = grind (arith, nat_tests)
 pub record Kept (show : ShowData) : Type 0 where
   pub profiles_few : length show.profiles ≤ most_profiles
   pub profiles_differ : differ (profile_names show.profiles) ≡ true
+  pub narrow : list_all is_narrow show.profiles ≡ true
   pub carriers_few : length show.carriers ≤ most_carriers
   pub carriers_differ : differ (carrier_names show.carriers) ≡ true
   pub there : list_all (belongs show.profiles show.zones) show.carriers ≡ true
@@ -51,6 +52,7 @@ kept_of show h =
     record {
       profiles_few = le_of _ _ q.0;
       profiles_differ = q.1;
+      narrow = p.1;
       carriers_few = le_of _ _ e.0;
       carriers_differ = e.1;
       there = d.1;
@@ -86,12 +88,13 @@ zones_whole hot (x ∷ names) couplings t more first distinct few paired h =
 rest_made : (hot : HotPointsOf) (show : ShowData) → IsShowOver hot show → Kept show
     → made hot (zones_alone show.zones) (flat_map profile_lines show.profiles ++ (map ban_line show.bans ++ (map scan_line show.scans ++ flat_map carrier_lines show.carriers))) ≡ Some show
 rest_made hot show w k =
-    let p = profiles_made hot (zones_alone show.zones) [] show.profiles refl k.profiles_differ w.textual w.profiles (omega (arith, k.profiles_few)) in
-    let b = bans_made hot (record (zones_alone show.zones) { profiles = show.profiles }) [] show.bans k.bans w.bans (omega (arith, k.bans_few)) in
-    let s = scans_made hot (record (zones_alone show.zones) { profiles = show.profiles; bans = show.bans }) [] show.scans k.scans w.scans (omega (arith, k.scans_few)) in
-    let c = carriers_made hot (record (zones_alone show.zones) { profiles = show.profiles; bans = show.bans; scans = show.scans }) [] show.carriers k.carriers_differ k.there k.steady w.carriers (omega (arith, k.carriers_few)) in
+    let p = profiles_made hot (zones_alone show.zones) [] show.profiles refl k.profiles_differ w.textual w.whole.profiles (omega (arith, k.profiles_few)) in
+    let b = bans_made hot (record (zones_alone show.zones) { profiles = show.profiles }) [] show.bans k.bans w.whole.bans (omega (arith, k.bans_few)) in
+    let s = scans_made hot (record (zones_alone show.zones) { profiles = show.profiles; bans = show.bans }) [] show.scans k.scans w.points (omega (arith, k.scans_few)) in
+    let c = carriers_made hot (record (zones_alone show.zones) { profiles = show.profiles; bans = show.bans; scans = show.scans }) [] show.carriers k.carriers_differ k.there k.steady w.whole.carriers (omega (arith, k.carriers_few)) in
     made_all hot _ _ _ (flat_map profile_lines show.profiles) _ p (made_all hot _ _ _ (map ban_line show.bans) _ b (made_all hot _ _ _ (map scan_line show.scans) (flat_map carrier_lines show.carriers) s c))
 
 pub commands_make_show : (hot : HotPointsOf) (show : ShowData) → IsShowOver hot show → made hot first_show (show_lines show) ≡ Some show
 commands_make_show hot show w =
-    zones_whole hot show.zones.names show.zones.couplings show _ w.zones.first w.zones.distinct w.zones.few w.zones.paired (rest_made hot show w (kept_of show w.kept))
+    zones_whole hot show.zones.names show.zones.couplings show _ w.whole.zones.first w.whole.zones.distinct w.whole.zones.few w.whole.zones.paired
+    (rest_made hot show w (kept_of show w.whole.kept))

@@ -8,4 +8,5 @@ pub mod Separators
 pub mod Shapes
 pub mod ShowLaw
 pub mod Shows
+pub mod TextLines
 pub mod Words

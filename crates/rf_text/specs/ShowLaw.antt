@@ -61,23 +61,29 @@ pub record IsBan (ban : Ban) : Type 0 where
   pub high : IsKhz ban.hi
   pub zone : IfSome ban.zone IsName
 
--- a scan has the hot points of its file
-pub record IsScan (hot : HotPointsOf) (scan : ScanSet) : Type 0 where
+pub record IsScan (scan : ScanSet) : Type 0 where
   pub file : IsFileName scan.file
   pub zone : IsName scan.zone
-  pub points : hot scan.file scan.sep scan.threshold ≡ scan.hot
 
--- What a show over files with these hot points keeps, with what its parts keep. Its widths are those of a text: a show that is
--- raised may have no text.
-pub record IsShowOver (hot : HotPointsOf) (show : ShowData) : Type 0 where
+-- What a show keeps, with what its parts keep.
+pub record IsWhole (show : ShowData) : Type 0 where
   pub kept : is_show show ≡ true
-  pub textual : is_textual show ≡ true
   pub zones : IsZones show.zones
   pub zone_names : AllByRecursion IsName show.zones.names
   pub profiles : AllByRecursion IsProfile show.profiles
   pub bans : AllByRecursion IsBan show.bans
-  pub scans : AllByRecursion (IsScan hot) show.scans
+  pub scans : AllByRecursion IsScan show.scans
   pub carriers : AllByRecursion IsCarrier show.carriers
+
+-- a scan has the hot points of its file
+abbrev pub HasPoints : HotPointsOf → ScanSet → Type 0
+HasPoints hot scan = hot scan.file scan.sep scan.threshold ≡ scan.hot
+
+-- A show over files with these hot points. Its widths are those of a text: a show that is raised may not be made by a text.
+pub record IsShowOver (hot : HotPointsOf) (show : ShowData) : Type 0 where
+  pub whole : IsWhole show
+  pub textual : is_textual show ≡ true
+  pub points : AllByRecursion (HasPoints hot) show.scans
 
 -- The lines of a show's text, applied to a first show over the same files, are all accepted and give the show.
 abbrev pub LinesMakeShow : Type 0

@@ -123,10 +123,13 @@ show_lines show =
 unfoldable pub command_line : Command → List ℕ
 command_line command = command_text_of command ++ 10 ∷ []
 
+-- the words of the first line, which is a comment: how many lines come after it
+abbrev pub comment_words : ShowData → List (List ℕ)
+comment_words show = codes "#" ∷ codes "show" ∷ decimal (length (show_lines show)) ∷ []
+
 -- the reply to `show`
 abbrev pub show_text_of : ShowData → List ℕ
-show_text_of show =
-    line_of (codes "#" ∷ codes "show" ∷ decimal (length (show_lines show)) ∷ []) ++ flat_map command_line (show_lines show)
+show_text_of show = line_of (comment_words show) ++ flat_map command_line (show_lines show)
 
 -- ---- how it is written
 

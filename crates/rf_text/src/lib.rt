@@ -16,6 +16,6 @@ mod writing;
 
 pub use command::{Command, UnknownLine, read_command};
 pub use free::free_text;
-pub use show_law::{edits_stay_textual, lines_make_show};
+pub use show_law::{edits_stay_textual, lines_make_show, text_has_lines};
 pub use show_lines::show_text;
 pub use writing::command_text;
