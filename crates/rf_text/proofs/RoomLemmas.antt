@@ -1,19 +1,15 @@
 -- How long the line of a command is at most.
-use Rattle.std.proofs.Common.{◌≡◌, ◌<◌, ◌≤◌, ◌+◌, ◌*◌, ◌++◌, ℕ, zero, suc, List, [], ◌∷◌, Bool, true, false, length, length-append, map, take, arith, Some, None}
+use Rattle.std.proofs.Common.{◌≡◌, ◌≤◌, ◌+◌, ◌*◌, ℕ, zero, suc, List, [], ◌∷◌, Bool, true, false, length, length-append, map, take, arith, refl, Some, None}
 use Rattle.std.specs.Prelude.{◌^◌, ◌/◌, ◌%◌, ◌==◌, ℤ, pos, negsuc, nat_abs, decimal, slice_index, if◌then◌else◌}
 use Rattle.std.proofs.lemmas.Bool.Decides.{nat_tests}
 use Rattle.std.proofs.lemmas.Fmt.{length-decimal-le}
 use Rattle.std.proofs.lemmas.List.{length-take}
 use Rattle.rf_base.specs.Lines.{spaced}
-use Rattle.rf_base.specs.FileName.{is_file_name}
-use Rattle.rf_base.specs.Name.{is_name}
 use Rattle.rf_base.specs.declared.decimal.Decimal.{Decimal}
 use Rattle.rf_exclusions.specs.declared.scan_set.Sep.TheVariants.{Comma, Semicolon, Tab}
 use Rattle.rf_text.specs.Decimals.{billionths_text, decimal_text, fraction_text, places, sign_text}
-use Rattle.rf_text.specs.EditTexts.{number_words}
 use Rattle.rf_text.specs.Operands.{fewest_numbers}
 use Rattle.rf_text.specs.Shapes.{Operand, a_decimal, a_file, a_name, a_number, a_separator, Value, Shape, nothing, last, perhaps, numbers, ◌and◌, Values}
-use Rattle.rf_text.proofs.PlaceLemmas.{places_more, places_none}
 use Rattle.rf_text.proofs.ShapesBack.{AreNumbers, AreShort, AreValues, IsFiled, IsNamed, IsShort, IsSmall, IsValue, word_of, words_of}
 
 -- ---- words
@@ -45,7 +41,9 @@ decimal_room n h =
     let m = nat_abs n.0 in
     let small : IsShort (m / 1_000_000_000) = omega arith in
     let fraction = fraction_room (m % 1_000_000_000) (m % 1_000_000_000 == 0) refl in
-    omega (arith, length-append (sign_text n.0) (billionths_text m), length-append (decimal (m / 1_000_000_000)) (fraction_text (m % 1_000_000_000)), sign_room n.0, number_room (m / 1_000_000_000) small, fraction)
+    let whole = number_room (m / 1_000_000_000) small in
+    let long = length-append (decimal (m / 1_000_000_000)) (fraction_text (m % 1_000_000_000)) in
+    omega (arith, length-append (sign_text n.0) (billionths_text m), sign_room n.0)
 
 name_room : (name : List ℕ) → IsNamed name → length name ≤ 255
 name_room name h = grind (arith, nat_tests)

@@ -1,5 +1,5 @@
 -- The lines of the bytes of a show's text.
-use Rattle.std.proofs.Common.{◌≡◌, ◌<◌, ◌≤◌, ◌+◌, ◌-◌, ◌++◌, ◌∙◌, ℕ, List, [], ◌∷◌, ◌&&◌, Bool, true, false, not, length, length-append, map, get_or, append_assoc, arith, refl, ap, sym}
+use Rattle.std.proofs.Common.{◌≡◌, ◌<◌, ◌≤◌, ◌-◌, ◌++◌, ◌∙◌, ℕ, List, [], ◌∷◌, ◌&&◌, Bool, true, false, not, length, length-append, map, get_or, append_assoc, arith, refl, ap}
 use Rattle.std.specs.Prelude.{◌^◌, ◌==◌, codes, decimal, nat_lt, slice_index}
 use Rattle.std.specs.List.{AllByRecursion, list_all, flat_map}
 use Rattle.std.proofs.lemmas.Bool.{and_parts}
@@ -9,7 +9,7 @@ use Rattle.std.proofs.lemmas.List.Folds.{list_all-append}
 use Rattle.std.proofs.lemmas.List.Sums.{AllPass-from_list_all}
 use Rattle.rf_base.proofs.ScriptLaws.{all_lines-ended}
 use Rattle.rf_base.specs.Lines.{joined, spaced}
-use Rattle.rf_base.specs.Script.{HasNoFeed, all_lines, ended_line, is_feed, is_over, lines_within, short, without_return}
+use Rattle.rf_base.specs.Script.{HasNoFeed, all_lines, ended_line, is_feed, is_over, short}
 use Rattle.rf_show.specs.Show.{ShowData}
 use Rattle.rf_text.specs.declared.command.Command.{Command}
 use Rattle.rf_text.specs.CommandTexts.{command_text_of, command_words}

@@ -1,5 +1,5 @@
 -- The lines of the bytes of a show's text.
-use Rattle.std.specs.Prelude.{◌≡◌, ◌<◌, ◌≤◌, ◌^◌, ℕ, List, ◌∷◌, length, map}
+use Rattle.std.specs.Prelude.{◌≡◌, ◌<◌, ◌≤◌, ◌^◌, ℕ, ◌∷◌, length, map}
 use Rattle.rf_base.specs.Lines.{joined}
 use Rattle.rf_base.specs.Script.{Line, lines_within, short}
 use Rattle.rf_show.specs.Show.{ShowData}
