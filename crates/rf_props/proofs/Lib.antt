@@ -13,3 +13,4 @@ pub mod SettleLemmas
 pub mod BanLemmas
 pub mod FlagLemmas
 pub mod RestLemmas
+pub mod ApplyLemmas

@@ -1,6 +1,6 @@
 //! What a hint takes out of sets of indices, by the definition of its effect.
 
-ghost use Rattle.std.specs.Prelude.{◌≡◌, ◌↔◌, ◌<◌, ◌≤◌, ◌-◌, All, true, false, length, take, slice_index};
+ghost use Rattle.std.specs.Prelude.{◌≡◌, ◌↔◌, ◌<◌, ◌≤◌, ◌-◌, All, EachIndex, IsTrue, true, false, length, take, drop, slice_index};
 ghost use Rattle.std.specs.List.{remove};
 ghost use Rattle.rf_terms.specs.Kinds.{roles_of};
 ghost use Rattle.rf_log.specs.Case.{count_of, counts_of};
@@ -30,7 +30,10 @@ fn is_barred(problem: &Problem, carrier: usize, lo: u32, hi: u32) -> bool
     requires carrier { carrier < length problem.now.carriers }
     ensures { result ≡ hints.is_barred (case_of problem.now) carrier lo hi }
 {
-    for k in lo..hi + 1 {
+    for k in lo..problem.count(carrier) {
+        if k > hi {
+            return true;
+        }
         if problem.allowed(carrier, k) {
             return false;
         }
@@ -108,29 +111,26 @@ fn are_roles(problem: &Problem, kind: Kind, all: &[u32; 4], target: u32) -> bool
     ensures { (result ≡ true) ↔ AreRolesIn (case_of problem.now) (roles_of kind) all.now target }
 {
     let count = roles_of(kind);
-    target < count as u32 && are_carriers(problem, &all[..count]) && are_zero(&all[count..])
+    if target as usize >= count {
+        return false;
+    }
+    if !are_carriers(problem, &all[..count]) {
+        return false;
+    }
+    are_zero(all, count)
 }
 
 fn are_carriers(problem: &Problem, roles: &[u32]) -> bool
-    ensures { (result ≡ true) ↔ All (λ c. c < length (case_of problem.now).carriers) roles.now }
+    ensures { IsTrue result ↔ EachIndex roles.now (λ k. slice_index roles.now k < length (case_of problem.now).carriers) }
 {
-    for role in roles {
-        if *role as usize >= problem.carriers() {
-            return false;
-        }
-    }
-    true
+    let carriers = problem.carriers();
+    roles.iter().all(|role| (*role as usize) < carriers)
 }
 
-fn are_zero(roles: &[u32]) -> bool
-    ensures { (result ≡ true) ↔ All (λ c. c ≡ 0) roles.now }
+fn are_zero(roles: &[u32], from: usize) -> bool
+    ensures { IsTrue result ↔ EachIndex (drop from roles.now) (λ k. slice_index (drop from roles.now) k ≡ 0) }
 {
-    for role in roles {
-        if *role != 0 {
-            return false;
-        }
-    }
-    true
+    roles.iter().skip(from).all(|role| *role == 0)
 }
 
 /// Takes the indices from `lo` to `hi` of the target out, where each of them breaks the instance, and says whether that is so.
@@ -155,13 +155,26 @@ pub fn apply_rule(
     if !are_roles(problem, kind, all, target) {
         return false;
     }
-    let places = [all[0] as usize, all[1] as usize, all[2] as usize, all[3] as usize];
+    let places = [
+        all[0] as usize,
+        all[1] as usize,
+        all[2] as usize,
+        all[3] as usize,
+    ];
     let place = target as usize;
     let carrier = places[place];
     if !is_range(problem, carrier, lo, hi) {
         return false;
     }
-    if !is_ruled_out(problem, sets, kind, &places[..roles_of(kind)], place, lo, hi) {
+    if !is_ruled_out(
+        problem,
+        sets,
+        kind,
+        &places[..roles_of(kind)],
+        place,
+        lo,
+        hi,
+    ) {
         return false;
     }
     sets.remove_range(carrier, lo, hi);

@@ -11,7 +11,7 @@ use crate::bans::Bans;
 use crate::of_roles::{Spacing, ThreeSource, TwoSource};
 use crate::theory::ProblemTheory;
 use rf_base::NoMemory;
-use rf_propagate::{Both, Engine, Outcome};
+use rf_propagate::{Both, Engine, Outcome, Propagator};
 use rf_trail::Trail;
 
 /// Every propagator of the rules: what is not allowed, and each kind of the rule table. Those that cost little come to rest
@@ -35,6 +35,34 @@ pub fn engine_of<'a>(theory: ProblemTheory<'a>) -> Engine<ProblemTheory<'a>, Rul
         second: ThreeSource::new(),
     };
     Engine::new(theory, rules)
+}
+
+/// The engine of every propagator and a further one, which fits the theory.
+pub fn engine_with<'a, Q: Propagator<ProblemTheory<'a>>>(
+    theory: ProblemTheory<'a>,
+    second: Q,
+) -> Engine<ProblemTheory<'a>, Both<Rules, Q>>
+    requires { Q.fits second theory }
+    ensures theory { result.theory ≡ theory.entry }
+    ensures second { result.propagator.second ≡ second }
+{
+    let spaced = Both {
+        first: Bans::new(),
+        second: Spacing::new(),
+    };
+    let clear_of_two = Both {
+        first: spaced,
+        second: TwoSource::new(),
+    };
+    let rules = Both {
+        first: clear_of_two,
+        second: ThreeSource::new(),
+    };
+    let both = Both {
+        first: rules,
+        second,
+    };
+    Engine::new(theory, both)
 }
 
 /// Settles the engine. Where it is quiet, what is left lies within the closure of each path that the trail was on, and

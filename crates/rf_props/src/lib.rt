@@ -1,6 +1,7 @@
 //! The propagators of the rules: what is not allowed, and what breaks a rule with carriers that have one channel left.
 #![tactic(auto)]
 
+mod apply;
 mod bans;
 mod engine;
 mod flags;
@@ -18,6 +19,6 @@ mod sweep;
 mod theory;
 
 pub use bans::Bans;
-pub use engine::{Rules, engine_of, settle};
+pub use engine::{Rules, engine_of, engine_with, settle};
 pub use of_roles::{OfRoles, Spacing, ThreeSource, TwoSource};
 pub use theory::{ProblemTheory, trail_of};

@@ -1,4 +1,8 @@
-ghost use Rattle.std.specs.Prelude.{◌≡◌, [], ◌∷◌, ◌++◌, OnOk, OnErr};
+ghost use Rattle.std.specs.Prelude.{◌≡◌, [], ◌∷◌, ◌++◌, Some, None, MatchOption, OnOk, OnErr};
+ghost use Rattle.std.specs.List.Sorted.{IsStrictlyIncreasing};
+ghost use Rattle.rf_log.specs.Hints.{line_at};
+ghost use Rattle.rf_propagate.specs.Laws.{numbers_of};
+ghost use Rattle.rf_props.specs.Ranges.{AreBelow};
 
 use rf_base::{Items, NoMemory};
 use rf_log::Cond;
@@ -50,6 +54,43 @@ impl Lines {
     /// Where their memory comes from.
     pub(crate) fn alloc(&self) -> Global {
         self.alloc
+    }
+
+    // How many lines have a number below this one.
+    fn count_below(&self, number: u32) -> usize
+        requires { IsStrictlyIncreasing (numbers_of self.now) }
+        ensures { AreBelow (numbers_of self.now) number result }
+    {
+        let lines = self.lines.as_slice();
+        let mut from = 0;
+        let mut upto = lines.len();
+        while from < upto {
+            let middle = from + (upto - from) / 2;
+            let line = &lines[middle];
+            if line.number < number {
+                from = middle + 1;
+            } else {
+                upto = middle;
+            }
+        }
+        from
+    }
+
+    /// The conditions of the line of that number. None where no line has it.
+    pub fn find(&self, number: u32) -> Option<&[Cond]>
+        requires { IsStrictlyIncreasing (numbers_of self.now) }
+        ensures { MatchOption result (line_at self.now number ≡ None) (λ conds. line_at self.now number ≡ Some conds.now) }
+    {
+        let lines = self.lines.as_slice();
+        let place = self.count_below(number);
+        if place >= lines.len() {
+            return None;
+        }
+        let line = &lines[place];
+        if line.number != number {
+            return None;
+        }
+        Some(line.conds.as_slice())
     }
 
     /// Adds a line at the end. `NoMemory` where no memory is found, which leaves them unchanged.

@@ -5,11 +5,13 @@ ghost use Rattle.rf_domain.specs.Sets.{AreCounts};
 ghost use Rattle.rf_problem.specs.Problem.{case_of};
 ghost use Rattle.rf_propagate.specs.Laws.{AreKnown, numbers_of};
 
+use crate::apply::{apply_ban, apply_rule};
 use crate::lines::Lines;
 use rf_base::{Items, NoMemory};
-use rf_log::Cond;
+use rf_domain::Domains;
+use rf_log::{Cond, Hint};
 use rf_problem::Problem;
-use rf_propagate::{Grows, Theory};
+use rf_propagate::{Applies, Grows, Theory, apply_line};
 use rf_trail::Trail;
 use std::alloc::Global;
 
@@ -89,5 +91,30 @@ impl<'a> Theory for ProblemTheory<'a> {
 impl<'a> Grows for ProblemTheory<'a> {
     fn grow(&mut self, line: u32, conds: &[Cond]) -> Result<(), NoMemory> {
         self.lines.push(line, conds)
+    }
+}
+
+impl<'a> Applies for ProblemTheory<'a> {
+    fn line(&self, number: u32) -> Option<&[Cond]> {
+        self.lines.find(number)
+    }
+
+    fn apply(&self, sets: &mut Domains, hint: &Hint) -> bool {
+        match hint {
+            Hint::Earlier { line } => match self.lines.find(*line) {
+                Some(conds) => apply_line(sets, conds),
+                None => false,
+            },
+            Hint::Ban { carrier, lo, hi } => {
+                apply_ban(self.problem, sets, *carrier as usize, *lo, *hi)
+            }
+            Hint::Rule {
+                kind,
+                roles,
+                target,
+                lo,
+                hi,
+            } => apply_rule(self.problem, sets, *kind, roles, *target, *lo, *hi),
+        }
     }
 }
