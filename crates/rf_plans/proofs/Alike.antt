@@ -1,5 +1,5 @@
 -- A show that differs from another only in where its carriers stand.
-use Rattle.std.proofs.Common.{◌≡◌, ◌∙◌, ℕ, zero, suc, Bool, false, ◌&&◌, ◌||◌, List, [], ◌∷◌, find, length, map, max, refl, ap, Some, None}
+use Rattle.std.proofs.Common.{◌≡◌, ◌∙◌, ℕ, zero, suc, Bool, false, ◌&&◌, ◌||◌, List, [], ◌∷◌, find, map, max, refl, ap, Some}
 use Rattle.std.specs.Prelude.{◌-◌, ◌==◌, nat_lt, slice_get, slice_index}
 use Rattle.std.specs.declared.option.Option.{Option}
 use Rattle.std.specs.List.{list_all, list_any}
@@ -62,12 +62,18 @@ module _ (show : ShowData) (ats : List (Option ℕ)) where
       ∙ ap (λ a. max (asked show Spacing (slice_index roles 0)) a) (asked_placed Spacing (slice_index roles 1))
   margin_placed kind roles = asked_placed kind (slice_index roles (roles_of kind - 1))
 
+  half_placed : (c : ℕ) → half_of now c ≡ half_of show c
+  half_placed c = ap (λ o. option_map_or (λ (p : Profile). p.half) o 0) (profile_placed c)
+
+  -- a ban or a scan touches a frequency for a carrier with this half width
+  abbrev touched : ℕ → ℕ → Option Carrier → Bool
+  touched f half o = option_map_or (λ (x : Carrier). bans_touch show.bans x.zone half f || scans_touch show.scans x.zone half f) o false
+
   banned_placed : (c f : ℕ) → is_banned now c f ≡ is_banned show c f
   unfolding is_banned
   banned_placed c f =
-      ap (λ (o : Option Profile). option_map_or (λ (x : Carrier). bans_touch show.bans x.zone (option_map_or (λ (p : Profile). p.half) o 0) f || scans_touch show.scans x.zone (option_map_or (λ (p : Profile). p.half) o 0) f)
-      (slice_get (placed show.carriers ats) c) false) (profile_placed c)
-      ∙ placed_at (λ o. option_map_or (λ (x : Carrier). bans_touch show.bans x.zone (half_of show c) f || scans_touch show.scans x.zone (half_of show c) f) o false) (λ x at. refl) show.carriers ats c
+      ap (λ half. touched f half (slice_get (placed show.carriers ats) c)) (half_placed c)
+      ∙ placed_at (touched f (half_of show c)) (λ x at. refl) show.carriers ats c
 
   meet_placed : (size a b : ℕ) → meet_at size show.zones (placed show.carriers ats) a b ≡ meet_at size show.zones show.carriers a b
   meet_placed size a b =

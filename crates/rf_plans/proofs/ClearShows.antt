@@ -1,6 +1,6 @@
 -- A show that stands on a plan has nothing to report.
-use Rattle.std.proofs.Common.{◌≡◌, ◌<◌, ◌∙◌, ◌++◌, ℕ, zero, suc, Bool, true, false, ◌&&◌, ◌||◌, not, List, [], ◌∷◌, filter, length, map, get_or, arith, refl, ap, sym, Some, None}
-use Rattle.std.specs.Prelude.{All, ◌==◌, if◌then◌else◌, slice_get, slice_index}
+use Rattle.std.proofs.Common.{◌≡◌, ◌<◌, ◌∙◌, ℕ, zero, suc, Bool, true, false, ◌&&◌, ◌||◌, not, List, [], ◌∷◌, filter, length, map, get_or, arith, refl, ap, sym, Some, None}
+use Rattle.std.specs.Prelude.{◌==◌, if◌then◌else◌, slice_get, slice_index}
 use Rattle.std.specs.declared.option.Option.{Option}
 use Rattle.std.specs.List.{flat_map, list_any}
 use Rattle.std.specs.Option.{option_and_then, option_map_or}
@@ -13,15 +13,14 @@ use Rattle.rf_terms.specs.Kinds.{kinds, roles_of}
 use Rattle.rf_terms.specs.declared.kind.Kind.{Kind}
 use Rattle.rf_profiles.specs.Channels.{channels}
 use Rattle.rf_profiles.specs.declared.profile.Profile.{Profile}
-use Rattle.rf_show.specs.Query.{at_of, channel_of, is_allowed, is_banned, is_channel, may_stand_at, profile_of}
+use Rattle.rf_show.specs.Query.{channel_of, is_banned, may_stand_at, profile_of}
 use Rattle.rf_show.specs.Show.{ShowData}
 use Rattle.rf_show.specs.declared.carrier.Carrier.{Carrier}
-use Rattle.rf_rules.specs.Analyses.{analysis, banned_carriers, conflicts_of, is_off_grid, off_grid, stands_banned}
+use Rattle.rf_rules.specs.Analyses.{banned_carriers, conflicts_of, is_off_grid, off_grid, stands_banned}
 use Rattle.rf_rules.specs.Conflicts.{conflict_of}
 use Rattle.rf_rules.specs.Instances.{at_in, ats_of, is_broken}
 use Rattle.rf_rules.specs.Plans.{IsPlan, planned}
 use Rattle.rf_rules.specs.Tuples.{tuples, upto}
-use Rattle.rf_rules.specs.declared.conflict.Conflict.{Conflict}
 use Rattle.rf_rules.specs.declared.conflict.Conflict.TheVariants.{Banned, OffGrid}
 use Rattle.rf_rules.proofs.PlanLemmas.{broken-none}
 use Rattle.rf_rules.proofs.TupleLemmas.{get_or-upto, length-upto}
@@ -57,8 +56,10 @@ listed fs k (Some f) e =
     let is : get_or fs k f ≡ f = get_or_from_slice_get fs k f f e in
     ap not (list_any_at (λ g. f == g) fs k f (slice_get_within fs k f e) (eq-eqb _ _ (sym is)))
 
-on_grid : (o : Option Profile) (k : ℕ)
-    → option_map_or (λ f. not (option_map_or (λ (p : Profile). list_any (λ g. f == g) (channels p.channels)) o false)) (option_and_then (λ (p : Profile). slice_get (channels p.channels) k) o) false ≡ false
+abbrev is_there : Option Profile → ℕ → Bool
+is_there o f = option_map_or (λ (p : Profile). list_any (λ g. f == g) (channels p.channels)) o false
+
+on_grid : (o : Option Profile) (k : ℕ) → option_map_or (λ f. not (is_there o f)) (option_and_then (λ (p : Profile). slice_get (channels p.channels) k) o) false ≡ false
 on_grid None k = refl
 on_grid (Some p) k = listed (channels p.channels) k (slice_get (channels p.channels) k) refl
 

@@ -1,20 +1,18 @@
 -- A show in which a plan was placed.
-use Rattle.std.proofs.Common.{◌≡◌, ◌<◌, ◌+◌, ◌∙◌, ℕ, suc, true, false, List, [], ◌∷◌, length, map, get_or, arith, refl, ap, sym, subst, Some, None, Ok, Err}
+use Rattle.std.proofs.Common.{◌≡◌, ◌<◌, ◌∙◌, ℕ, true, List, [], ◌∷◌, length, map, arith, refl, ap, sym, subst, Some, None, Ok}
 use Rattle.std.specs.Prelude.{is_some, slice_index, unwrap_or}
 use Rattle.std.specs.declared.option.Option.{Option}
-use Rattle.std.specs.List.{range_with_len}
 use Rattle.std.proofs.lemmas.List.{ext_get_or, get_or-map, length-map}
 use Rattle.std.proofs.lemmas.List.FromFn.{get_or-map-range_with_len, length-map-range_with_len}
 use Rattle.rf_log.specs.Case as case
 use Rattle.rf_log.specs.Case.{freq_of}
 use Rattle.rf_show.proofs.PlaceLemmas.{length-placed}
-use Rattle.rf_show.specs.After.{after, after_unless, edited, placed, refusal}
+use Rattle.rf_show.specs.After.{after, after_unless, placed, refusal}
 use Rattle.rf_show.specs.Case.{Agree, case_of}
-use Rattle.rf_show.specs.Query.{channel_of, is_allowed}
+use Rattle.rf_show.specs.Query.{channel_of}
 use Rattle.rf_show.specs.Show.{ShowData}
 use Rattle.rf_show.specs.declared.carrier.Carrier.{Carrier}
 use Rattle.rf_show.specs.declared.refusal.Refusal.{Refusal}
-use Rattle.rf_rules.specs.Instances.{at_in, ats_of}
 use Rattle.rf_rules.specs.Plans.{IsPlan, planned}
 use Rattle.rf_solving.specs.Placing.{plan_edit}
 use Rattle.rf_solving.specs.Solving.{plan_freqs}

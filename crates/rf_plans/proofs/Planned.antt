@@ -16,7 +16,7 @@ use Rattle.rf_profiles.specs.Channels.{channels}
 use Rattle.rf_profiles.specs.declared.profile.Profile.{Profile}
 use Rattle.rf_log.specs.Case as case
 use Rattle.rf_log.specs.Case.{are_distinct, are_together, breaks, freq_of}
-use Rattle.rf_show.specs.Case.{Agree, case_of, channels_of}
+use Rattle.rf_show.specs.Case.{Agree, case_of}
 use Rattle.rf_show.specs.Query.{channel_of, is_allowed, margin_of, may_take, profile_of}
 use Rattle.rf_show.specs.Show.{ShowData}
 use Rattle.rf_rules.specs.Instances.{are_assigned, at_in, distance_of, is_broken, is_candidate, is_instance, khz_in}
@@ -44,7 +44,8 @@ some_if (Some f) test h = refl
 pub channel_there : (show : ShowData) (c k : ℕ) → is_allowed show c k ≡ true → is_some (channel_of show c k) ≡ true
 channel_there show c k h = some_if (channel_of show c k) (may_take show c) h
 
-khz_of : (o : Option Profile) (k : ℕ) → unwrap_or (option_and_then (λ (p : Profile). slice_get (channels p.channels) k) o) 0 ≡ slice_index (option_map_or (λ (p : Profile). channels p.channels) o []) k
+khz_of : (o : Option Profile) (k : ℕ)
+    → unwrap_or (option_and_then (λ (p : Profile). slice_get (channels p.channels) k) o) 0 ≡ slice_index (option_map_or (λ (p : Profile). channels p.channels) o []) k
 khz_of None k = refl
 khz_of (Some p) k = unwrap_or-slice_get (channels p.channels) k 0
 
@@ -81,7 +82,9 @@ broken_same show plan fits kind roles n low =
     let ats = planned show plan in
     let full = fits.full in
     let there : are_assigned ats roles ≡ true =
-    all_some ats roles (λ k d inside. ap is_some (planned_at show plan (get_or roles k d) (low k d inside)) ∙ channel_there show (get_or roles k d) _ (fits.allowed (get_or roles k d) (low k d inside))) in
+    all_some ats roles (λ k d inside.
+    ap is_some (planned_at show plan (get_or roles k d) (low k d inside))
+    ∙ channel_there show (get_or roles k d) _ (fits.allowed (get_or roles k d) (low k d inside))) in
     let khz = all_khz ats (λ c. freq_of (case_of show) c (slice_index plan c)) roles
     (λ k d inside. ap (λ o. unwrap_or o 0) (planned_at show plan (get_or roles k d) (low k d inside)) ∙ channel_khz show fits.agree (get_or roles k d) _ (omega (arith, full, low k d inside))) in
     let margin = fits.agree.margin kind roles n (λ k d inside. omega (arith, full, low k d inside)) in
@@ -133,7 +136,7 @@ to_case show plan agree is =
           let in_plan : All (λ c. c < length plan) roles = λ k d inside. omega (arith, full, low k d inside) in
           let here : All (λ c. c < length (planned show plan)) roles = λ k d inside. omega (arith, length_planned show plan, in_plan k d inside) in
           only_broken (breaks (case_of show) kind roles (slice_index plan)) (is_instance show kind roles) (instance_same show agree kind roles of.count low ∙ h)
-              (sym (broken_same show plan fits kind roles of.count in_plan) ∙ is.kept kind roles of.count here);
+          (sym (broken_same show plan fits kind roles of.count in_plan) ∙ is.kept kind roles of.count here);
     }
 
 from_case : (show : ShowData) (plan : List ℕ) → Agree show (case_of show) → case.IsPlan (case_of show) plan → IsPlan show plan

@@ -10,8 +10,8 @@ use Rattle.rf_rules.specs.Plans as plans
 
 -- carriers of a show in the roles of a kind are an instance of it exactly where they are one of the case
 abbrev pub InstancesAgree : Type 0
-InstancesAgree = (of : ShowData) (kind : Kind) (roles : List ℕ) → length roles ≡ roles_of kind → All (λ c. c < length of.carriers) roles
-    → show.is_instance of kind roles ≡ case.is_instance (case_of of) kind roles
+InstancesAgree = (of : ShowData) (kind : Kind) (roles : List ℕ) → length roles ≡ roles_of kind
+    → All (λ c. c < length of.carriers) roles → show.is_instance of kind roles ≡ case.is_instance (case_of of) kind roles
 
 -- a list is a plan of a show exactly where it is one of the case
 abbrev pub PlansAgree : Type 0

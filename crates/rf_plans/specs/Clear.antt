@@ -22,4 +22,5 @@ PlansAreClear = (show : ShowData) (plan : List ℕ) → IsPlan (case_of show) pl
 
 -- A show in which a plan was placed is clear.
 abbrev pub PlacedPlansAreClear : Type 0
-PlacedPlansAreClear = (show new : ShowData) (plan : List ℕ) → IsPlan (case_of show) plan → after show (plan_edit show plan) ≡ Ok new → IsClear new
+PlacedPlansAreClear = (show new : ShowData) (plan : List ℕ) → IsPlan (case_of show) plan → after show (plan_edit show plan) ≡ Ok new
+    → IsClear new
