@@ -82,7 +82,7 @@ impl Program for InMemory {
         let status = run_once(alloc, words.as_slice(), &mut source, &mut shelf, &mut sink);
         let written = sink.bytes().to_vec(alloc)?;
         Ok(Outcome {
-            status: status as usize,
+            status: usize::from(status.exit_code()),
             written,
         })
     }

@@ -1,6 +1,7 @@
 -- How a check ends.
 use Rattle.std.proofs.Common.{◌≡◌, ℕ, List, Result, Ok, Err, refl, sym, subst}
 use Rattle.std.specs.declared.option.Option.{Option}
+use Rattle.rf_base.specs.Shelf.{Ask}
 use Rattle.rf_base.specs.declared.status.Status.{Status}
 use Rattle.rf_base.specs.declared.status.Status.TheVariants.{Done, Refused, Words, Read, Write, Shelf, Memory, Long}
 use Rattle.rf_session.specs.declared.check.CheckFault.{CheckFault}
@@ -13,21 +14,21 @@ use Rattle.rf_session.proofs.CheckFailures.{NotFound-found}
 use Rattle.rf_session.proofs.Checking.{may_fail}
 
 -- what was fetched is the same, whatever was written
-Fetching-written : (finds : List Fetched → List Fetched → Type 0) (written written' : Option (List ℕ)) (file file' : List ℕ → Option (Option (List ℕ))) (counts counts' : List ℕ → ℕ) →
-    Fetching finds (shelf_alone file counts) (shelf_alone file' counts') → Fetching finds (outside written file counts) (outside written' file' counts')
-Fetching-written finds written written' file file' counts counts' it = record {
+Fetching-written : (finds : List Fetched → List Fetched → Type 0) (written written' : Option (List ℕ)) (file file' : List ℕ → Option (Option (List ℕ))) (counts counts' : List ℕ → ℕ) (asked asked' : Option (List Ask)) →
+    Fetching finds (shelf_alone file counts asked) (shelf_alone file' counts' asked') → Fetching finds (outside written file counts asked) (outside written' file' counts' asked')
+Fetching-written finds written written' file file' counts counts' asked asked' it = record {
   first = it.first;
   last = it.last;
   finds = it.finds;
   mid = it.mid;
-  brought = record { told = it.brought.told; bound = it.brought.bound; same = it.brought.same };
-  brought_log = record { told = it.brought_log.told; bound = it.brought_log.bound; same = it.brought_log.same };
+  brought = record { told = it.brought.told; bound = it.brought.bound; same = it.brought.same; asks = it.brought.asks };
+  brought_log = record { told = it.brought_log.told; bound = it.brought_log.bound; same = it.brought_log.same; asks = it.brought_log.asks };
   kept = it.kept;
 }
 
-pub Unjudged-kept : (show log : List ℕ) (written : Option (List ℕ)) (file file' : List ℕ → Option (Option (List ℕ))) (counts counts' : List ℕ → ℕ) →
-    KeepsOthers show log (shelf_alone file counts) (shelf_alone file' counts') → Unjudged show log (outside written file counts) (outside written file' counts')
-Unjudged-kept show log w file file' counts counts' keeps =
+pub Unjudged-kept : (show log : List ℕ) (written : Option (List ℕ)) (file file' : List ℕ → Option (Option (List ℕ))) (counts counts' : List ℕ → ℕ) (asked asked' : Option (List Ask)) →
+    KeepsOthers show log (shelf_alone file counts asked) (shelf_alone file' counts' asked') → Unjudged show log (outside written file counts asked) (outside written file' counts' asked')
+Unjudged-kept show log w file file' counts counts' asked asked' keeps =
     record { unwritten = refl; keeps = record { got = keeps.got; may = keeps.may; others = keeps.others } }
 
 -- no memory was found at the start
@@ -36,26 +37,26 @@ Unjudged-none show log o = record { unwritten = refl; keeps = record { got = fau
 
 -- what was found is written
 pub Checks-told : (judge : Judging) (status : Status) (show log : List ℕ) (finding : Finding) (written written' : Option (List ℕ)) (file file' : List ℕ → Option (Option (List ℕ)))
-    (counts counts' : List ℕ → ℕ) → Found judge show log (shelf_alone file counts) (shelf_alone file' counts') (Ok finding) →
-    KeepsOthers show log (shelf_alone file counts) (shelf_alone file' counts') → Tells finding status written written' →
-    Checks judge status show log (outside written file counts) (outside written' file' counts')
-Checks-told judge Done show log finding w w' file file' counts counts' it keeps (is, wrote) =
-    record { finding = finding; run = Fetching-written _ w w' file file' counts counts' it; wrote = wrote; ends = sym is }
-Checks-told judge Refused show log finding w w' file file' counts counts' it keeps (is, wrote) =
-    record { finding = finding; run = Fetching-written _ w w' file file' counts counts' it; wrote = wrote; ends = sym is }
-Checks-told judge Write show log finding w w' file file' counts counts' it keeps wrote =
-    record { finding = finding; run = Fetching-written _ w w' file file' counts counts' it; wrote = wrote }
-Checks-told judge Memory show log finding w w' file file' counts counts' it keeps same =
+    (counts counts' : List ℕ → ℕ) (asked asked' : Option (List Ask)) → Found judge show log (shelf_alone file counts asked) (shelf_alone file' counts' asked') (Ok finding) →
+    KeepsOthers show log (shelf_alone file counts asked) (shelf_alone file' counts' asked') → Tells finding status written written' →
+    Checks judge status show log (outside written file counts asked) (outside written' file' counts' asked')
+Checks-told judge Done show log finding w w' file file' counts counts' asked asked' it keeps (is, wrote) =
+    record { finding = finding; run = Fetching-written _ w w' file file' counts counts' asked asked' it; wrote = wrote; ends = sym is }
+Checks-told judge Refused show log finding w w' file file' counts counts' asked asked' it keeps (is, wrote) =
+    record { finding = finding; run = Fetching-written _ w w' file file' counts counts' asked asked' it; wrote = wrote; ends = sym is }
+Checks-told judge Write show log finding w w' file file' counts counts' asked asked' it keeps wrote =
+    record { finding = finding; run = Fetching-written _ w w' file file' counts counts' asked asked' it; wrote = wrote }
+Checks-told judge Memory show log finding w w' file file' counts counts' asked asked' it keeps same =
     record { unwritten = same; keeps = record { got = keeps.got; may = keeps.may; others = keeps.others } }
-Checks-told judge Words show log finding w w' file file' counts counts' it keeps bad = absurd bad
-Checks-told judge Read show log finding w w' file file' counts counts' it keeps bad = absurd bad
-Checks-told judge Shelf show log finding w w' file file' counts counts' it keeps bad = absurd bad
-Checks-told judge Long show log finding w w' file file' counts counts' it keeps bad = absurd bad
+Checks-told judge Words show log finding w w' file file' counts counts' asked asked' it keeps bad = absurd bad
+Checks-told judge Read show log finding w w' file file' counts counts' asked asked' it keeps bad = absurd bad
+Checks-told judge Shelf show log finding w w' file file' counts counts' asked asked' it keeps bad = absurd bad
+Checks-told judge Long show log finding w w' file file' counts counts' asked asked' it keeps bad = absurd bad
 
 -- the shelf failed
-pub Checks-failed : (judge : Judging) (r : Result Finding CheckFault) (show log : List ℕ) (written : Option (List ℕ)) (file file' : List ℕ → Option (Option (List ℕ))) (counts counts' : List ℕ → ℕ) →
-    r ≡ Err NotFetched → IfFound r (Found judge show log (shelf_alone file counts) (shelf_alone file' counts')) →
-    Checks judge Shelf show log (outside written file counts) (outside written file' counts')
-Checks-failed judge r show log w file file' counts counts' is finds =
-    let it = subst (λ (q : Result Finding CheckFault). IfFound q (Found judge show log (shelf_alone file counts) (shelf_alone file' counts'))) is finds in
-    NotFound-found judge show log _ _ (Fetching-written _ w w file file' counts counts' it) refl
+pub Checks-failed : (judge : Judging) (r : Result Finding CheckFault) (show log : List ℕ) (written : Option (List ℕ)) (file file' : List ℕ → Option (Option (List ℕ))) (counts counts' : List ℕ → ℕ) (asked asked' : Option (List Ask)) →
+    r ≡ Err NotFetched → IfFound r (Found judge show log (shelf_alone file counts asked) (shelf_alone file' counts' asked')) →
+    Checks judge Shelf show log (outside written file counts asked) (outside written file' counts' asked')
+Checks-failed judge r show log w file file' counts counts' asked asked' is finds =
+    let it = subst (λ (q : Result Finding CheckFault). IfFound q (Found judge show log (shelf_alone file counts asked) (shelf_alone file' counts' asked'))) is finds in
+    NotFound-found judge show log _ _ (Fetching-written _ w w file file' counts counts' asked asked' it) refl

@@ -1,6 +1,7 @@
 pub mod CheckEnds
 pub mod CheckFailures
 pub mod Checking
+pub mod CleanLaws
 pub mod Demonstrating
 pub mod Ending
 pub mod FetchLaws

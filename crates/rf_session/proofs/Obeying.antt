@@ -4,6 +4,7 @@ use Rattle.std.specs.Result.{IfOk, IfErr, OnErr}
 use Rattle.std.specs.declared.option.Option.{Option}
 use Rattle.std.specs.Io.KnownBytes.{Appends}
 use Rattle.rf_base.specs.Piece.{AppendsPrefix}
+use Rattle.rf_base.specs.Shelf.{Ask}
 use Rattle.rf_editor.specs.History.{History, edited_history}
 use Rattle.rf_show.specs.Show.{ShowData}
 use Rattle.rf_show.specs.declared.edit.Edit.{Edit}
@@ -106,11 +107,11 @@ told_cut {T} (Err stop) history show answer inquiry said a b is here told part o
     }
 
 module _ (old mid : History) (said : Result Command UnknownLine) (answer : Answer) (written written' : Option (List ℕ))
-    (file file' : List ℕ → Option (Option (List ℕ))) (counts counts' : List ℕ → ℕ)
-    (obeyed : Obeyed (λ fetched. ComesTo old said fetched answer mid) (shelf_alone file counts) (shelf_alone file' counts')) where
+    (file file' : List ℕ → Option (Option (List ℕ))) (counts counts' : List ℕ → ℕ) (asked asked' : Option (List Ask))
+    (obeyed : Obeyed (λ fetched. ComesTo old said fetched answer mid) (shelf_alone file counts asked) (shelf_alone file' counts' asked')) where
   -- the answer was given
   pub replied_by : {E : Type 0} (r : Result Bool E) (new : History) → IfOk r (Writes (λ reply. Answers mid answer reply new) written written') →
-      IfOk r (Replied (Obeys old said) new (outside written file counts) (outside written' file' counts'))
+      IfOk r (Replied (Obeys old said) new (outside written file counts asked) (outside written' file' counts' asked'))
   replied_by (Ok refusal) new writes =
       let (got, fetched, is, from) = obeyed.took in record {
         fetched = obeyed.fetched;
@@ -121,7 +122,7 @@ module _ (old mid : History) (said : Result Command UnknownLine) (answer : Answe
           subst (λ (h : History). Answers h (said_outcome old said got).answer writes.reply new) from
               (subst (λ (a : Answer). Answers mid a writes.reply new) is writes.took),
         );
-        brought = record { told = obeyed.brought.told; bound = obeyed.brought.bound; same = obeyed.brought.same };
+        brought = record { told = obeyed.brought.told; bound = obeyed.brought.bound; same = obeyed.brought.same; asks = obeyed.brought.asks };
         kept = obeyed.kept;
         wrote = writes.wrote;
         refuses = writes.refuses;
@@ -139,7 +140,7 @@ module _ (old mid : History) (said : Result Command UnknownLine) (answer : Answe
 
   -- the answer was cut short
   pub cut_by : {T : Type 0} (r : Result T Stop) → IfErr r (λ stop. WritesPart (AnswerPart stop mid answer) written written') →
-      IfErr r (λ stop. IsCut (PartsOf old stop said) (outside written file counts) (outside written' file' counts'))
+      IfErr r (λ stop. IsCut (PartsOf old stop said) (outside written file counts asked) (outside written' file' counts' asked'))
   cut_by (Ok x) writes = tt
   cut_by (Err stop) writes = record {
     fetched = obeyed.fetched;

@@ -9,6 +9,7 @@ use Rattle.rf_base.specs.declared.status.Status.TheVariants.{Done, Refused}
 use Rattle.rf_base.specs.Input.{Input, lines_of, is_long}
 use Rattle.rf_base.specs.Reader.{input_of}
 use Rattle.rf_base.specs.Script.{Line, long, ended_lines}
+use Rattle.rf_base.specs.Shelf.{Ask}
 use Rattle.rf_base.specs.Told.{WhereTold}
 use Rattle.rf_base.proofs.Bytes.{Appends-then}
 use Rattle.rf_base.proofs.InputLaws.{GoesTo-takes, IsAtNone-end, IsBeyond-too_long}
@@ -25,7 +26,7 @@ use Rattle.rf_session.specs.Reply.{refusal_text}
 use Rattle.rf_session.specs.Run.{is_quit, is_passed, up_to_quit, answered, quits, Step, Cut, Answered, Replied}
 use Rattle.rf_session.specs.Session.{Finishes, RunsOver, ReadsPart, BreaksOff, Ends}
 use Rattle.rf_session.specs.Turn.{Handles, RefusesLong, Gave, Turns}
-use Rattle.rf_session.proofs.FetchLaws.{MayBring-same, bound_then, count_by-append, Brought-absent}
+use Rattle.rf_session.proofs.FetchLaws.{MayBring-same, bound_then, count_by-append, AppendsAsks-none, Brought-absent}
 use Rattle.rf_session.proofs.Follows.{Follows, Follows-begin, Follows-line}
 use Rattle.rf_session.proofs.Runs.{answered-quit, quits-quit, Answered-then, Answered-none, Answered-one, Answered-still}
 
@@ -176,22 +177,22 @@ Turns-handled step cuts ReadFault m m' o o' r r' s s' line gave handles = absurd
 
 -- what a turn does with a line that is too long
 pub Handles-long : {M : Type 0} (steps : M → List ℕ → Fetched → Reply → M → Type 0) (cuts : M → Stop → List ℕ → Fetched → List ℕ → Type 0)
-    (turn : Turn) (m : M) (c c' : Option (List ℕ)) (file : List ℕ → Option (Option (List ℕ))) (faults : List ℕ → ℕ) →
-    RefusesLong turn c c' → Handles (Step steps) (Cut cuts) turn m m (outside c file faults) (outside c' file faults) long
-Handles-long steps cuts (Went refusal) m c c' file faults refuses = (
+    (turn : Turn) (m : M) (c c' : Option (List ℕ)) (file : List ℕ → Option (Option (List ℕ))) (faults : List ℕ → ℕ) (asked : Option (List Ask)) →
+    RefusesLong turn c c' → Handles (Step steps) (Cut cuts) turn m m (outside c file faults asked) (outside c' file faults asked) long
+Handles-long steps cuts (Went refusal) m c c' file faults asked refuses = (
   refl,
   Answered-one (Step steps) m m _ _ long refusal refl record {
     fetched = absent;
     reply = Error LongLine;
     took = (refl, refl, refl);
-    brought = Brought-absent (outside c file faults) (outside c' file faults) (λ name. refl) (λ name. refl);
+    brought = Brought-absent (outside c file faults asked) (outside c' file faults asked) (λ name. refl) (λ name. refl) (AppendsAsks-none asked);
     kept = λ name none. refl;
     wrote = refuses.1;
     refuses = refuses.0;
   },
 )
-Handles-long steps cuts (Quit refusal) m c c' file faults refuses = absurd refuses
-Handles-long steps cuts (Stopped stop) m c c' file faults refuses = (
+Handles-long steps cuts (Quit refusal) m c c' file faults asked refuses = absurd refuses
+Handles-long steps cuts (Stopped stop) m c c' file faults asked refuses = (
   refl,
   record {
     fetched = absent;
@@ -202,9 +203,9 @@ Handles-long steps cuts (Stopped stop) m c c' file faults refuses = (
     wrote = refuses.grew;
   },
 )
-Handles-long steps cuts End m c c' file faults refuses = absurd refuses
-Handles-long steps cuts TooLong m c c' file faults refuses = absurd refuses
-Handles-long steps cuts ReadFault m c c' file faults refuses = absurd refuses
+Handles-long steps cuts End m c c' file faults asked refuses = absurd refuses
+Handles-long steps cuts TooLong m c c' file faults asked refuses = absurd refuses
+Handles-long steps cuts ReadFault m c c' file faults asked refuses = absurd refuses
 
 pub ends_answered : {M : Type 0} (step : M → Line → Fetched → Reply → M → Type 0) (cuts : M → Stop → Line → Fetched → List ℕ → Type 0) (m0 m' : M)
     (o0 o' : Outside) (r0 r' : LineReader) (s0 s' : Option (List ℕ)) (refusal : Bool) (status : Status) →

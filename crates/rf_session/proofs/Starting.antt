@@ -19,7 +19,7 @@ use Rattle.rf_session.specs.Session.{Breaks, BreaksOff, Finishes, Ends}
 use Rattle.rf_session.specs.Top.{script, script_limit, Headline, RepliesToTaken, RepliesToAll, RepliesToSome, IsReadThrough, Serves}
 use Rattle.rf_session.specs.Shows.{Steps, Parts}
 use Rattle.rf_editor.specs.History.{History, first_history}
-use Rattle.rf_session.proofs.FetchLaws.{Brought-absent}
+use Rattle.rf_session.proofs.FetchLaws.{AppendsAsks-none, Brought-absent}
 use Rattle.rf_session.specs.Unfetched.{IsBounded}
 use Rattle.rf_session.proofs.Runs.{Appends-none}
 use Rattle.rf_session.proofs.UnfetchedLaws.{IsBounded-broken, IsBounded-run}
@@ -32,7 +32,7 @@ breaks_none cuts (line ∷ lines) = inl refl
 -- no memory was found for a reader
 pub Serves-none : (o : Outside) (left : Option (List ℕ)) → WhereTold left left (Serves Memory o o)
 Serves-none o left =
-    let none = Brought-absent o o (λ name. refl) (λ name. refl) in
+    let none = Brought-absent o o (λ name. refl) (λ name. refl) (AppendsAsks-none o.asked) in
     WhereTold-same left _ (λ bytes. record {
       last = first_history;
       rest = script bytes;

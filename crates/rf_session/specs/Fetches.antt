@@ -1,8 +1,9 @@
 -- What lines fetch from the shelf.
-use Rattle.std.specs.Prelude.{◌≡◌, ◌≤◌, ◌<◌, ◌+◌, ◌-◌, ◌^◌, min, ℕ, Bool, false, List, [], ◌∷◌, length, count_by, All, Some, None}
-use Rattle.std.specs.List.{list_any}
+use Rattle.std.specs.Prelude.{◌≡◌, ◌≤◌, ◌<◌, ◌+◌, ◌-◌, ◌^◌, min, ℕ, Bool, true, false, List, [], ◌∷◌, length, count_by, All, Some, None}
+use Rattle.std.specs.List.{flat_map, list_any}
 use Rattle.std.specs.Str.{bytes_eq}
 use Rattle.std.specs.declared.option.Option.{Option}
+use Rattle.rf_base.specs.Shelf.{Ask, AppendsAsks}
 use Rattle.rf_session.specs.declared.file.File.{File}
 use Rattle.rf_session.specs.declared.file.File.TheVariants.{Found, TooLarge, Fault}
 
@@ -17,18 +18,20 @@ pub data Fetched : Type 0 where
   absent : Fetched
   of_file : List ℕ → Got → Fetched
 
--- What a machine meets: the bytes that its sink holds, what its shelf tells of each name, and how often each name failed.
+-- What a machine meets: the bytes that its sink holds, what its shelf tells of each name, how often each name failed, and what the
+-- shelf was asked for.
 pub record Outside : Type 0 where
   pub written : Option (List ℕ)
   pub file : List ℕ → Option (Option (List ℕ))
   pub faults : List ℕ → ℕ
+  pub asked : Option (List Ask)
 
 -- an outside of which the shelf alone is looked at
-abbrev pub shelf_alone : (List ℕ → Option (Option (List ℕ))) → (List ℕ → ℕ) → Outside
-shelf_alone file faults = record { written = None; file = file; faults = faults }
+abbrev pub shelf_alone : (List ℕ → Option (Option (List ℕ))) → (List ℕ → ℕ) → Option (List Ask) → Outside
+shelf_alone file faults asked = record { written = None; file = file; faults = faults; asked = asked }
 
-abbrev pub outside : Option (List ℕ) → (List ℕ → Option (Option (List ℕ))) → (List ℕ → ℕ) → Outside
-outside written file faults = record { written = written; file = file; faults = faults }
+abbrev pub outside : Option (List ℕ) → (List ℕ → Option (Option (List ℕ))) → (List ℕ → ℕ) → Option (List Ask) → Outside
+outside written file faults asked = record { written = written; file = file; faults = faults; asked = asked }
 
 -- the largest file that a line may name
 abbrev pub file_limit : ℕ
@@ -70,12 +73,28 @@ fails_at name (of_file other (found bytes)) = false
 fails_at name (of_file other too_large) = false
 fails_at name (of_file other fault) = bytes_eq other name
 
+abbrev pub is_fault : Got → Bool
+is_fault (found bytes) = false
+is_fault too_large = false
+is_fault fault = true
+
+-- a line that names no file asks for nothing, and one that names a file asks for it once
+abbrev pub ask_made : Fetched → List Ask
+ask_made absent = []
+ask_made (of_file name got) = (name, is_fault got) ∷ []
+
+-- the asks that are these fetches, in their order
+abbrev pub asks_made : List Fetched → List Ask
+asks_made fetches = flat_map ask_made fetches
+
 -- The shelf brought these, of at most so many bytes each: each is a fault or what the shelf tells of the file, no file had more
--- faults among them than its count rose by (a count may stand at its type's end), and the shelf goes on telling the same.
+-- faults among them than its count rose by (a count may stand at its type's end), the shelf goes on telling the same, and it was
+-- asked for these and for nothing else, each time once.
 pub record BroughtWithin (limit : ℕ) (before after : Outside) (fetches : List Fetched) : Type 0 where
   pub told : All (MayBringWithin limit before.file) fetches
   pub bound : (name : List ℕ) → min (before.faults name + count_by (fails_at name) fetches) (2 ^ 64 - 1) ≤ after.faults name
   pub same : (name : List ℕ) → after.file name ≡ before.file name
+  pub asks : AppendsAsks before.asked after.asked (asks_made fetches)
 
 -- the shelf brought these files that lines name
 abbrev pub Brought : Outside → Outside → List Fetched → Type 0

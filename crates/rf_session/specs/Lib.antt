@@ -1,4 +1,5 @@
 pub mod Checked
+pub mod Clean
 pub mod Demonstrated
 pub mod Fetches
 pub mod Files

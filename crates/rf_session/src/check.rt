@@ -41,8 +41,8 @@ pub(crate) fn check<F: Shelf, O: Sink>(
     output: &mut O,
 ) -> Status
     ensures checks { spec.Checks (spec.judging_of judge) result show.now log.now
-        (outside (O.contents output.old) (F.file shelf.old) (F.faults shelf.old))
-        (outside (O.contents output.new) (F.file shelf.new) (F.faults shelf.new)) }
+        (outside (O.contents output.old) (F.file shelf.old) (F.faults shelf.old) (F.asked shelf.old))
+        (outside (O.contents output.new) (F.file shelf.new) (F.faults shelf.new) (F.asked shelf.new)) }
     ensures later { O.faults output.old ≤ O.faults output.new }
     ensures write { result ≡ Status.Write → Rose (O.faults output.old) (O.faults output.new) }
 {
@@ -62,9 +62,11 @@ fn find<F: Shelf>(
     shelf: &mut F,
 ) -> Result<Finding, CheckFault>
     ensures found { spec.IfFound result (spec.Found (spec.judging_of judge) show.now log.now
-        (shelf_alone (F.file shelf.old) (F.faults shelf.old)) (shelf_alone (F.file shelf.new) (F.faults shelf.new))) }
+        (shelf_alone (F.file shelf.old) (F.faults shelf.old) (F.asked shelf.old))
+        (shelf_alone (F.file shelf.new) (F.faults shelf.new) (F.asked shelf.new))) }
     ensures others { spec.KeepsOthers show.now log.now
-        (shelf_alone (F.file shelf.old) (F.faults shelf.old)) (shelf_alone (F.file shelf.new) (F.faults shelf.new)) }
+        (shelf_alone (F.file shelf.old) (F.faults shelf.old) (F.asked shelf.old))
+        (shelf_alone (F.file shelf.new) (F.faults shelf.new) (F.asked shelf.new)) }
 {
     match fetch_file(alloc, shelf, show) {
         Ok(File::Found(bytes)) => find_over(alloc, judge, bytes, log, shelf),
@@ -84,7 +86,8 @@ fn find_over<F: Shelf>(
 ) -> Result<Finding, CheckFault>
     requires { length bytes.items ≤ file_limit }
     ensures found { spec.IfFound result (spec.FoundOver (spec.judging_of judge) bytes.items log.now
-        (shelf_alone (F.file shelf.old) (F.faults shelf.old)) (shelf_alone (F.file shelf.new) (F.faults shelf.new))) }
+        (shelf_alone (F.file shelf.old) (F.faults shelf.old) (F.asked shelf.old))
+        (shelf_alone (F.file shelf.new) (F.faults shelf.new) (F.asked shelf.new))) }
     ensures others { (name : List ℕ) → bytes_eq log.now name ≡ false → are_naming name (lines_of (script bytes.items)) ≡ false →
         F.faults shelf.new name ≡ F.faults shelf.old name }
 {
@@ -105,7 +108,8 @@ fn find_in_log<F: Shelf>(
     shelf: &mut F,
 ) -> Result<Finding, CheckFault>
     ensures found { spec.IfFound result (spec.FoundInLog (spec.judging_of judge) show.now log.now
-        (shelf_alone (F.file shelf.old) (F.faults shelf.old)) (shelf_alone (F.file shelf.new) (F.faults shelf.new))) }
+        (shelf_alone (F.file shelf.old) (F.faults shelf.old) (F.asked shelf.old))
+        (shelf_alone (F.file shelf.new) (F.faults shelf.new) (F.asked shelf.new))) }
     ensures others { (name : List ℕ) → bytes_eq log.now name ≡ false → F.faults shelf.new name ≡ F.faults shelf.old name }
 {
     match fetch_within(alloc, shelf, log, LOG_LIMIT) {

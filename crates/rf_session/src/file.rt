@@ -47,8 +47,9 @@ pub(crate) fn fetch_file<F: Shelf>(
     name: &str,
 ) -> Result<File, NoMemory>
     ensures kept { (other : List ℕ) → other ≢ name.now → F.faults shelf.new other ≡ F.faults shelf.old other }
-    ensures brought { IfOk result (λ file. (written : Option (List ℕ)) → Brought (outside written (F.file shelf.old) (F.faults shelf.old))
-        (outside written (F.file shelf.new) (F.faults shelf.new)) (of_file name.now (got_of file) ∷ [])) }
+    ensures brought { IfOk result (λ file. (written : Option (List ℕ)) → Brought
+        (outside written (F.file shelf.old) (F.faults shelf.old) (F.asked shelf.old))
+        (outside written (F.file shelf.new) (F.faults shelf.new) (F.asked shelf.new)) (of_file name.now (got_of file) ∷ [])) }
     ensures small { IfOk result (λ file. spec.IsSmall (got_of file)) }
     ensures later { (other : List ℕ) → F.faults shelf.old other ≤ F.faults shelf.new other }
 {
@@ -63,8 +64,9 @@ pub(crate) fn fetch_within<F: Shelf>(
     limit: usize,
 ) -> Result<File, NoMemory>
     ensures kept { (other : List ℕ) → other ≢ name.now → F.faults shelf.new other ≡ F.faults shelf.old other }
-    ensures brought { IfOk result (λ file. (written : Option (List ℕ)) → BroughtWithin limit (outside written (F.file shelf.old) (F.faults shelf.old))
-        (outside written (F.file shelf.new) (F.faults shelf.new)) (of_file name.now (got_of file) ∷ [])) }
+    ensures brought { IfOk result (λ file. (written : Option (List ℕ)) → BroughtWithin limit
+        (outside written (F.file shelf.old) (F.faults shelf.old) (F.asked shelf.old))
+        (outside written (F.file shelf.new) (F.faults shelf.new) (F.asked shelf.new)) (of_file name.now (got_of file) ∷ [])) }
     ensures small { IfOk result (λ file. spec.IsWithin limit (got_of file)) }
     ensures later { (other : List ℕ) → F.faults shelf.old other ≤ F.faults shelf.new other }
 {

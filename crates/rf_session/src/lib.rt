@@ -3,6 +3,7 @@
 
 mod answer;
 mod check;
+mod clean;
 mod demo;
 mod file;
 mod file_edit;
@@ -19,4 +20,5 @@ mod show_machine;
 mod top;
 mod words;
 
+pub use clean::run_clean;
 pub use top::run;

@@ -36,11 +36,11 @@ pub trait Machine {
         output: &mut O,
     ) -> Result<bool, Stop>
         ensures replied { IfOk result (Replied (steps self.old line.now) self.new
-            (outside (O.contents output.old) (F.file shelf.old) (F.faults shelf.old))
-            (outside (O.contents output.new) (F.file shelf.new) (F.faults shelf.new))) }
+            (outside (O.contents output.old) (F.file shelf.old) (F.faults shelf.old) (F.asked shelf.old))
+            (outside (O.contents output.new) (F.file shelf.new) (F.faults shelf.new) (F.asked shelf.new))) }
         ensures cut { IfErr result (λ stop. IsCut (cuts self.old stop line.now)
-            (outside (O.contents output.old) (F.file shelf.old) (F.faults shelf.old))
-            (outside (O.contents output.new) (F.file shelf.new) (F.faults shelf.new))) }
+            (outside (O.contents output.old) (F.file shelf.old) (F.faults shelf.old) (F.asked shelf.old))
+            (outside (O.contents output.new) (F.file shelf.new) (F.faults shelf.new) (F.asked shelf.new))) }
         ensures later { O.faults output.old ≤ O.faults output.new }
         ensures fault { result ≡ Err Stop.Write → Rose (O.faults output.old) (O.faults output.new) };
 }

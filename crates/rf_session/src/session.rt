@@ -38,8 +38,8 @@ pub fn serve<M: Machine, I: Source, F: Shelf, O: Sink>(
     requires { Reads reader.old (I.left input.old) }
     ensures session { WhereTold (I.left input.old) (I.left input.new)
         (λ before after. Ends (Step M.steps) (Cut M.cuts) result machine.old machine.new
-        (outside (O.contents output.old) (F.file shelf.old) (F.faults shelf.old))
-        (outside (O.contents output.new) (F.file shelf.new) (F.faults shelf.new))
+        (outside (O.contents output.old) (F.file shelf.old) (F.faults shelf.old) (F.asked shelf.old))
+        (outside (O.contents output.new) (F.file shelf.new) (F.faults shelf.new) (F.asked shelf.new))
         (input_of reader.old before) (input_of reader.new after)) }
     ensures drained { result ≡ Status.Read → pending_of reader.new ≡ [] }
     ensures input_later { I.faults input.old ≤ I.faults input.new }
@@ -84,8 +84,8 @@ fn take_turn<M: Machine, I: Source, F: Shelf, O: Sink>(
 ) -> Turn
     requires { Reads reader.old (I.left input.old) }
     ensures turns { Turns (Step M.steps) (Cut M.cuts) result machine.old machine.new
-        (outside (O.contents output.old) (F.file shelf.old) (F.faults shelf.old))
-        (outside (O.contents output.new) (F.file shelf.new) (F.faults shelf.new))
+        (outside (O.contents output.old) (F.file shelf.old) (F.faults shelf.old) (F.asked shelf.old))
+        (outside (O.contents output.new) (F.file shelf.new) (F.faults shelf.new) (F.asked shelf.new))
         reader.old reader.new (I.left input.old) (I.left input.new) }
     ensures reads { Reads reader.new (I.left input.new) }
     ensures goes_on { GoesOn result (limit_of reader.old) (limit_of reader.new) }
@@ -112,8 +112,8 @@ fn handle<M: Machine, F: Shelf, O: Sink>(
     output: &mut O,
 ) -> Turn
     ensures handles { Handles (Step M.steps) (Cut M.cuts) result machine.old machine.new
-        (outside (O.contents output.old) (F.file shelf.old) (F.faults shelf.old))
-        (outside (O.contents output.new) (F.file shelf.new) (F.faults shelf.new)) (short line.now) }
+        (outside (O.contents output.old) (F.file shelf.old) (F.faults shelf.old) (F.asked shelf.old))
+        (outside (O.contents output.new) (F.file shelf.new) (F.faults shelf.new) (F.asked shelf.new)) (short line.now) }
     ensures later { O.faults output.old ≤ O.faults output.new }
     ensures fault { result ≡ Turn.Stopped Stop.Write → Rose (O.faults output.old) (O.faults output.new) }
 {

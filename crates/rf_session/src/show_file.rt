@@ -75,7 +75,8 @@ pub(crate) fn read_show<F: Shelf>(
 ) -> Result<Show, ShowFault>
     requires { length bytes.items ≤ file_limit }
     ensures read { spec.IfShow result (spec.ShowRead (lines_of (script bytes.items))
-        (shelf_alone (F.file shelf.old) (F.faults shelf.old)) (shelf_alone (F.file shelf.new) (F.faults shelf.new))) }
+        (shelf_alone (F.file shelf.old) (F.faults shelf.old) (F.asked shelf.old))
+        (shelf_alone (F.file shelf.new) (F.faults shelf.new) (F.asked shelf.new))) }
     ensures others { (name : List ℕ) → spec.are_naming name (lines_of (script bytes.items)) ≡ false → F.faults shelf.new name ≡ F.faults shelf.old name }
 {
     let Ok(mut reader) = LineReader::new(alloc) else {
@@ -109,7 +110,8 @@ fn take_line<F: Shelf>(
     requires { Reads reader.old (⟦<CleanSource as Source>⟧.left source.old) }
     ensures takes { WhereTold (⟦<CleanSource as Source>⟧.left source.old) (⟦<CleanSource as Source>⟧.left source.new)
         (λ x y. Takes result show.old show.new
-        (shelf_alone (F.file shelf.old) (F.faults shelf.old)) (shelf_alone (F.file shelf.new) (F.faults shelf.new))
+        (shelf_alone (F.file shelf.old) (F.faults shelf.old) (F.asked shelf.old))
+        (shelf_alone (F.file shelf.new) (F.faults shelf.new) (F.asked shelf.new))
         (input_of reader.old x) (input_of reader.new y)) }
     ensures reads { Reads reader.new (⟦<CleanSource as Source>⟧.left source.new) }
     ensures shrinks { result ≡ Ok Taken.Line → limit_of reader.new < limit_of reader.old }
@@ -137,7 +139,8 @@ fn apply_line<F: Shelf>(
     shelf: &mut F,
 ) -> Result<(), LineFault>
     ensures read { spec.IfLine result show.new (λ read. Obeyed (λ fetched. spec.ReadsLine show.old (short line.now) fetched read)
-        (shelf_alone (F.file shelf.old) (F.faults shelf.old)) (shelf_alone (F.file shelf.new) (F.faults shelf.new))) }
+        (shelf_alone (F.file shelf.old) (F.faults shelf.old) (F.asked shelf.old))
+        (shelf_alone (F.file shelf.new) (F.faults shelf.new) (F.asked shelf.new))) }
     ensures others { (name : List ℕ) → is_file name (spec.line_file (short line.now)) ≡ false → F.faults shelf.new name ≡ F.faults shelf.old name }
 {
     if is_passed(line) {
@@ -158,7 +161,8 @@ fn apply_command<F: Shelf>(
 ) -> Result<(), LineFault>
     requires { IsAskable command }
     ensures read { spec.IfLine result show.new (λ read. Obeyed (λ fetched. spec.ReadsCommand show.old command fetched read)
-        (shelf_alone (F.file shelf.old) (F.faults shelf.old)) (shelf_alone (F.file shelf.new) (F.faults shelf.new))) }
+        (shelf_alone (F.file shelf.old) (F.faults shelf.old) (F.asked shelf.old))
+        (shelf_alone (F.file shelf.new) (F.faults shelf.new) (F.asked shelf.new))) }
     ensures others { (name : List ℕ) → is_file name (file_of command) ≡ false → F.faults shelf.new name ≡ F.faults shelf.old name }
 {
     match command {

@@ -82,11 +82,11 @@ impl ShowMachine {
     ) -> Result<bool, Stop>
         requires { IsAskable command }
         ensures replied { IfOk result (Replied (spec.Obeys self.old (Ok command)) self.new
-            (outside (O.contents output.old) (F.file shelf.old) (F.faults shelf.old))
-            (outside (O.contents output.new) (F.file shelf.new) (F.faults shelf.new))) }
+            (outside (O.contents output.old) (F.file shelf.old) (F.faults shelf.old) (F.asked shelf.old))
+            (outside (O.contents output.new) (F.file shelf.new) (F.faults shelf.new) (F.asked shelf.new))) }
         ensures cut { IfErr result (λ stop. IsCut (spec.PartsOf self.old stop (Ok command))
-            (outside (O.contents output.old) (F.file shelf.old) (F.faults shelf.old))
-            (outside (O.contents output.new) (F.file shelf.new) (F.faults shelf.new))) }
+            (outside (O.contents output.old) (F.file shelf.old) (F.faults shelf.old) (F.asked shelf.old))
+            (outside (O.contents output.new) (F.file shelf.new) (F.faults shelf.new) (F.asked shelf.new))) }
         ensures later { O.faults output.old ≤ O.faults output.new }
         ensures fault { result ≡ Err Stop.Write → Rose (O.faults output.old) (O.faults output.new) }
     {
@@ -131,7 +131,8 @@ impl ShowMachine {
     fn obey<F: Shelf>(&mut self, command: Command, shelf: &mut F) -> Result<Answer, NoMemory>
         requires { IsAskable command }
         ensures obeyed { IfOk result (λ answer. Obeyed (λ fetched. spec.ComesTo self.old (Ok command) fetched answer self.new)
-            (shelf_alone (F.file shelf.old) (F.faults shelf.old)) (shelf_alone (F.file shelf.new) (F.faults shelf.new))) }
+            (shelf_alone (F.file shelf.old) (F.faults shelf.old) (F.asked shelf.old))
+            (shelf_alone (F.file shelf.new) (F.faults shelf.new) (F.asked shelf.new))) }
         ensures givable { IfOk result spec.IsGivable }
         ensures later { (name : List ℕ) → F.faults shelf.old name ≤ F.faults shelf.new name }
     {

@@ -60,35 +60,53 @@ pub fn run<I: Source, F: Shelf, O: Sink>(
 ) -> Status
     ensures headline { asks words.now ≡ Some Asked.Session → (refusal : Bool) → result ≡ (if refusal then Status.Refused else Status.Done) →
         WhereTold (I.left input.old) (I.left input.new) (λ bytes _. Headline
-        (outside (O.contents output.old) (F.file shelf.old) (F.faults shelf.old))
-        (outside (O.contents output.new) (F.file shelf.new) (F.faults shelf.new)) bytes refusal) }
+        (outside (O.contents output.old) (F.file shelf.old) (F.faults shelf.old) (F.asked shelf.old))
+        (outside (O.contents output.new) (F.file shelf.new) (F.faults shelf.new) (F.asked shelf.new)) bytes refusal) }
     ensures done { result ≡ Status.Done → Ends (asks words.now) Status.Done
-        (world (I.left input.old) (I.faults input.old) (outside (O.contents output.old) (F.file shelf.old) (F.faults shelf.old)) (O.faults output.old))
-        (world (I.left input.new) (I.faults input.new) (outside (O.contents output.new) (F.file shelf.new) (F.faults shelf.new)) (O.faults output.new)) }
+        (world (I.left input.old) (I.faults input.old)
+        (outside (O.contents output.old) (F.file shelf.old) (F.faults shelf.old) (F.asked shelf.old)) (O.faults output.old))
+        (world (I.left input.new) (I.faults input.new)
+        (outside (O.contents output.new) (F.file shelf.new) (F.faults shelf.new) (F.asked shelf.new)) (O.faults output.new)) }
     ensures refused { result ≡ Status.Refused → Ends (asks words.now) Status.Refused
-        (world (I.left input.old) (I.faults input.old) (outside (O.contents output.old) (F.file shelf.old) (F.faults shelf.old)) (O.faults output.old))
-        (world (I.left input.new) (I.faults input.new) (outside (O.contents output.new) (F.file shelf.new) (F.faults shelf.new)) (O.faults output.new)) }
+        (world (I.left input.old) (I.faults input.old)
+        (outside (O.contents output.old) (F.file shelf.old) (F.faults shelf.old) (F.asked shelf.old)) (O.faults output.old))
+        (world (I.left input.new) (I.faults input.new)
+        (outside (O.contents output.new) (F.file shelf.new) (F.faults shelf.new) (F.asked shelf.new)) (O.faults output.new)) }
     ensures words { result ≡ Status.Words → Ends (asks words.now) Status.Words
-        (world (I.left input.old) (I.faults input.old) (outside (O.contents output.old) (F.file shelf.old) (F.faults shelf.old)) (O.faults output.old))
-        (world (I.left input.new) (I.faults input.new) (outside (O.contents output.new) (F.file shelf.new) (F.faults shelf.new)) (O.faults output.new)) }
+        (world (I.left input.old) (I.faults input.old)
+        (outside (O.contents output.old) (F.file shelf.old) (F.faults shelf.old) (F.asked shelf.old)) (O.faults output.old))
+        (world (I.left input.new) (I.faults input.new)
+        (outside (O.contents output.new) (F.file shelf.new) (F.faults shelf.new) (F.asked shelf.new)) (O.faults output.new)) }
     ensures read { result ≡ Status.Read → Ends (asks words.now) Status.Read
-        (world (I.left input.old) (I.faults input.old) (outside (O.contents output.old) (F.file shelf.old) (F.faults shelf.old)) (O.faults output.old))
-        (world (I.left input.new) (I.faults input.new) (outside (O.contents output.new) (F.file shelf.new) (F.faults shelf.new)) (O.faults output.new)) }
+        (world (I.left input.old) (I.faults input.old)
+        (outside (O.contents output.old) (F.file shelf.old) (F.faults shelf.old) (F.asked shelf.old)) (O.faults output.old))
+        (world (I.left input.new) (I.faults input.new)
+        (outside (O.contents output.new) (F.file shelf.new) (F.faults shelf.new) (F.asked shelf.new)) (O.faults output.new)) }
     ensures write { result ≡ Status.Write → Ends (asks words.now) Status.Write
-        (world (I.left input.old) (I.faults input.old) (outside (O.contents output.old) (F.file shelf.old) (F.faults shelf.old)) (O.faults output.old))
-        (world (I.left input.new) (I.faults input.new) (outside (O.contents output.new) (F.file shelf.new) (F.faults shelf.new)) (O.faults output.new)) }
+        (world (I.left input.old) (I.faults input.old)
+        (outside (O.contents output.old) (F.file shelf.old) (F.faults shelf.old) (F.asked shelf.old)) (O.faults output.old))
+        (world (I.left input.new) (I.faults input.new)
+        (outside (O.contents output.new) (F.file shelf.new) (F.faults shelf.new) (F.asked shelf.new)) (O.faults output.new)) }
     ensures shelf { result ≡ Status.Shelf → Ends (asks words.now) Status.Shelf
-        (world (I.left input.old) (I.faults input.old) (outside (O.contents output.old) (F.file shelf.old) (F.faults shelf.old)) (O.faults output.old))
-        (world (I.left input.new) (I.faults input.new) (outside (O.contents output.new) (F.file shelf.new) (F.faults shelf.new)) (O.faults output.new)) }
+        (world (I.left input.old) (I.faults input.old)
+        (outside (O.contents output.old) (F.file shelf.old) (F.faults shelf.old) (F.asked shelf.old)) (O.faults output.old))
+        (world (I.left input.new) (I.faults input.new)
+        (outside (O.contents output.new) (F.file shelf.new) (F.faults shelf.new) (F.asked shelf.new)) (O.faults output.new)) }
     ensures memory { result ≡ Status.Memory → Ends (asks words.now) Status.Memory
-        (world (I.left input.old) (I.faults input.old) (outside (O.contents output.old) (F.file shelf.old) (F.faults shelf.old)) (O.faults output.old))
-        (world (I.left input.new) (I.faults input.new) (outside (O.contents output.new) (F.file shelf.new) (F.faults shelf.new)) (O.faults output.new)) }
+        (world (I.left input.old) (I.faults input.old)
+        (outside (O.contents output.old) (F.file shelf.old) (F.faults shelf.old) (F.asked shelf.old)) (O.faults output.old))
+        (world (I.left input.new) (I.faults input.new)
+        (outside (O.contents output.new) (F.file shelf.new) (F.faults shelf.new) (F.asked shelf.new)) (O.faults output.new)) }
     ensures long { result ≡ Status.Long → Ends (asks words.now) Status.Long
-        (world (I.left input.old) (I.faults input.old) (outside (O.contents output.old) (F.file shelf.old) (F.faults shelf.old)) (O.faults output.old))
-        (world (I.left input.new) (I.faults input.new) (outside (O.contents output.new) (F.file shelf.new) (F.faults shelf.new)) (O.faults output.new)) }
+        (world (I.left input.old) (I.faults input.old)
+        (outside (O.contents output.old) (F.file shelf.old) (F.faults shelf.old) (F.asked shelf.old)) (O.faults output.old))
+        (world (I.left input.new) (I.faults input.new)
+        (outside (O.contents output.new) (F.file shelf.new) (F.faults shelf.new) (F.asked shelf.new)) (O.faults output.new)) }
     ensures complete { IsUndisturbed (asks words.now)
-        (world (I.left input.old) (I.faults input.old) (outside (O.contents output.old) (F.file shelf.old) (F.faults shelf.old)) (O.faults output.old))
-        (world (I.left input.new) (I.faults input.new) (outside (O.contents output.new) (F.file shelf.new) (F.faults shelf.new)) (O.faults output.new)) → EndsWell (asks words.now) result }
+        (world (I.left input.old) (I.faults input.old)
+        (outside (O.contents output.old) (F.file shelf.old) (F.faults shelf.old) (F.asked shelf.old)) (O.faults output.old))
+        (world (I.left input.new) (I.faults input.new)
+        (outside (O.contents output.new) (F.file shelf.new) (F.faults shelf.new) (F.asked shelf.new)) (O.faults output.new)) → EndsWell (asks words.now) result }
     ensures plain_words { (asked : Asked) → IsPlain (map string_bytes words.now) asked → asks words.now ≡ Some asked }
     ensures other_words { (asked : Asked) → asks words.now ≡ Some asked → HasPlain asked }
     ensures untouched_input { reads_input (asks words.now) ≡ false → input.new ≡ input.old }
@@ -108,8 +126,10 @@ fn do_asked<I: Source, F: Shelf, O: Sink>(
     output: &mut O,
 ) -> Status
     ensures ends { Ends (asks words.now) result
-        (world (I.left input.old) (I.faults input.old) (outside (O.contents output.old) (F.file shelf.old) (F.faults shelf.old)) (O.faults output.old))
-        (world (I.left input.new) (I.faults input.new) (outside (O.contents output.new) (F.file shelf.new) (F.faults shelf.new)) (O.faults output.new)) }
+        (world (I.left input.old) (I.faults input.old)
+        (outside (O.contents output.old) (F.file shelf.old) (F.faults shelf.old) (F.asked shelf.old)) (O.faults output.old))
+        (world (I.left input.new) (I.faults input.new)
+        (outside (O.contents output.new) (F.file shelf.new) (F.faults shelf.new) (F.asked shelf.new)) (O.faults output.new)) }
     ensures plain_words { (asked : Asked) → IsPlain (map string_bytes words.now) asked → asks words.now ≡ Some asked }
     ensures other_words { (asked : Asked) → asks words.now ≡ Some asked → HasPlain asked }
     ensures untouched_input { reads_input (asks words.now) ≡ false → input.new ≡ input.old }
@@ -153,8 +173,8 @@ fn session<I: Source, F: Shelf, O: Sink>(
     output: &mut O,
 ) -> Status
     ensures ends { WhereTold (I.left input.old) (I.left input.new) (λ bytes left. Serves result
-        (outside (O.contents output.old) (F.file shelf.old) (F.faults shelf.old))
-        (outside (O.contents output.new) (F.file shelf.new) (F.faults shelf.new)) bytes left) }
+        (outside (O.contents output.old) (F.file shelf.old) (F.faults shelf.old) (F.asked shelf.old))
+        (outside (O.contents output.new) (F.file shelf.new) (F.faults shelf.new) (F.asked shelf.new)) bytes left) }
     ensures input_later { I.faults input.old ≤ I.faults input.new }
     ensures output_later { O.faults output.old ≤ O.faults output.new }
     ensures read { result ≡ Status.Read → Rose (I.faults input.old) (I.faults input.new) }

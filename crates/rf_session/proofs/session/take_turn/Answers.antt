@@ -10,7 +10,7 @@ returns-in-Line-clause-turns g c =
 
 pub returns-in-LongLine-clause-turns : goal.returns-in-LongLine-clause-turns
 returns-in-LongLine-clause-turns g c =
-    Turns-handled _ _ c.refuse_long.result _ _ _ _ _ _ _ _ long c.in-LongLine.ensures.told (Handles-long _ _ c.refuse_long.result _ _ _ _ _ c.refuse_long.ensures.refuses)
+    Turns-handled _ _ c.refuse_long.result _ _ _ _ _ _ _ _ long c.in-LongLine.ensures.told (Handles-long _ _ c.refuse_long.result _ _ _ _ _ _ c.refuse_long.ensures.refuses)
 
 pub returns-in-End-clause-turns : goal.returns-in-End-clause-turns
 returns-in-End-clause-turns g c = (Answered-none _ _ _, search rules)

@@ -35,8 +35,8 @@ pub returns-in-Err-Refused-clause-read : goal.returns-in-Err-Refused-clause-read
 returns-in-Err-Refused-clause-read g c =
     let left = Some (drop c.loop-show.source.given c.loop-show.source.bytes.items) in
     let left' = Some (drop c.take_line.new.source.given c.take_line.new.source.bytes.items) in
-    let before = shelf_alone (g.F.Shelf.file c.args.shelf.now) (g.F.Shelf.faults c.args.shelf.now) in
-    let after = shelf_alone (g.F.Shelf.file c.take_line.new.shelf) (g.F.Shelf.faults c.take_line.new.shelf) in
+    let before = shelf_alone (g.F.Shelf.file c.args.shelf.now) (g.F.Shelf.faults c.args.shelf.now) (g.F.Shelf.asked c.args.shelf.now) in
+    let after = shelf_alone (g.F.Shelf.file c.take_line.new.shelf) (g.F.Shelf.faults c.take_line.new.shelf) (g.F.Shelf.asked c.take_line.new.shelf) in
     let read = Reading-refused c.args.bytes.items before _ after c.loop-show.show c.loop-show.reader c.take_line.new.reader left left' c.loop-show.line
     c.loop-show.invariant.0 c.in-Err-Refused.code
     (took_is c.take_line.result _ left left' c.loop-show.show c.take_line.new.show _ after c.loop-show.reader c.take_line.new.reader
@@ -47,7 +47,7 @@ pub returns-in-Err-Refused-clause-others : goal.returns-in-Err-Refused-clause-ot
 returns-in-Err-Refused-clause-others g c =
     let left = Some (drop c.loop-show.source.given c.loop-show.source.bytes.items) in
     let left' = Some (drop c.take_line.new.source.given c.take_line.new.source.bytes.items) in
-    let after = shelf_alone (g.F.Shelf.file c.take_line.new.shelf) (g.F.Shelf.faults c.take_line.new.shelf) in
+    let after = shelf_alone (g.F.Shelf.file c.take_line.new.shelf) (g.F.Shelf.faults c.take_line.new.shelf) (g.F.Shelf.asked c.take_line.new.shelf) in
     Reading-others c.args.bytes.items _ _ after c.loop-show.show c.loop-show.reader c.take_line.new.reader left left' c.loop-show.line c.loop-show.invariant.0
     c.take_line.ensures.others
 
@@ -63,7 +63,7 @@ pub returns-in-Err-Shelf-clause-others : goal.returns-in-Err-Shelf-clause-others
 returns-in-Err-Shelf-clause-others g c =
     let left = Some (drop c.loop-show.source.given c.loop-show.source.bytes.items) in
     let left' = Some (drop c.take_line.new.source.given c.take_line.new.source.bytes.items) in
-    let after = shelf_alone (g.F.Shelf.file c.take_line.new.shelf) (g.F.Shelf.faults c.take_line.new.shelf) in
+    let after = shelf_alone (g.F.Shelf.file c.take_line.new.shelf) (g.F.Shelf.faults c.take_line.new.shelf) (g.F.Shelf.asked c.take_line.new.shelf) in
     Reading-others c.args.bytes.items _ _ after c.loop-show.show c.loop-show.reader c.take_line.new.reader left left' c.loop-show.line c.loop-show.invariant.0
     c.take_line.ensures.others
 
@@ -71,6 +71,6 @@ pub returns-in-Err-Memory-clause-others : goal.returns-in-Err-Memory-clause-othe
 returns-in-Err-Memory-clause-others g c =
     let left = Some (drop c.loop-show.source.given c.loop-show.source.bytes.items) in
     let left' = Some (drop c.take_line.new.source.given c.take_line.new.source.bytes.items) in
-    let after = shelf_alone (g.F.Shelf.file c.take_line.new.shelf) (g.F.Shelf.faults c.take_line.new.shelf) in
+    let after = shelf_alone (g.F.Shelf.file c.take_line.new.shelf) (g.F.Shelf.faults c.take_line.new.shelf) (g.F.Shelf.asked c.take_line.new.shelf) in
     Reading-others c.args.bytes.items _ _ after c.loop-show.show c.loop-show.reader c.take_line.new.reader left left' c.loop-show.line c.loop-show.invariant.0
     c.take_line.ensures.others

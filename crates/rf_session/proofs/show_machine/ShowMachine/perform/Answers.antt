@@ -3,7 +3,7 @@ use Rattle.rf_session.proofs.Obeying.{cut_by, replied_by}
 use Rattle.rf_session.proofs.show_machine.ShowMachine.perform.Goals as goal
 
 pub returns-clause-replied : goal.returns-clause-replied
-returns-clause-replied g c = replied_by c.args.self.now _ (Ok c.args.command) c.in-Ok.answer _ _ _ _ _ _ c.in-Ok.ensures.obeyed c.give.result _ c.give.ensures.given
+returns-clause-replied g c = replied_by c.args.self.now _ (Ok c.args.command) c.in-Ok.answer _ _ _ _ _ _ _ _ c.in-Ok.ensures.obeyed c.give.result _ c.give.ensures.given
 
 pub returns-clause-cut : goal.returns-clause-cut
-returns-clause-cut g c = cut_by c.args.self.now _ (Ok c.args.command) c.in-Ok.answer _ _ _ _ _ _ c.in-Ok.ensures.obeyed c.give.result c.give.ensures.cut
+returns-clause-cut g c = cut_by c.args.self.now _ (Ok c.args.command) c.in-Ok.answer _ _ _ _ _ _ _ _ c.in-Ok.ensures.obeyed c.give.result c.give.ensures.cut
