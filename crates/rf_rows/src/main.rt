@@ -2,6 +2,9 @@
 //! many passed and failed. A word that ends in `.txt` names a file of cases; the bytes of another can be inserted by name.
 #![tactic(auto)]
 
+#[cfg(test)]
+mod clean;
+
 use anyhow::{Result, anyhow};
 use rf_base::{FileName, MemShelf, MemSink, MemSource, Status};
 use rf_cases::{Book, Fault, Given, Named, Outcome, Program};

@@ -2,7 +2,7 @@
 use crate::hold::{Broken, hold, told};
 use rf_base::{
     CleanShelf, CleanSink, CleanSource, Failed, Fetch, FileName, FolderShelf, MemShelf, MemSink,
-    Shelf, Sink, Source, StdSink, StdSource, put,
+    Shelf, Sink, Source, Status, StdSink, StdSource, put,
 };
 use std::alloc::Global;
 use std::fs;
@@ -70,6 +70,46 @@ fn shelves_in_memory(alloc: Global) -> Result<(), Broken> {
     ])
 }
 
+/// Whether a shelf was asked for this name in this place, from 0, and failed or not.
+fn asked(shelf: &MemShelf, place: usize, name: &str, failed: bool) -> bool {
+    match shelf.asks().get(place) {
+        Some(ask) => ask.name() == name && ask.has_failed() == failed,
+        None => false,
+    }
+}
+
+fn asks_in_memory(alloc: Global) -> Result<(), Broken> {
+    let name = FileName::read(b"a.csv").ok_or("a file name")?;
+    let files = vec![in alloc; (name, b"500,-80".to_vec(alloc)?)]?;
+    let mut shelf = MemShelf::new(alloc, files, vec![in alloc; 3]?);
+    let large = faults(&mut shelf, alloc, "a.csv", 6, Fetch::Large);
+    let none = faults(&mut shelf, alloc, "none.csv", 6, Fetch::Failed);
+    let third = faults(&mut shelf, alloc, "a.csv", 7, Fetch::Failed);
+    hold(&[
+        (large && none && third, "the third fetch fails"),
+        (shelf.asks().len() == 3, "each fetch is one ask"),
+        (asked(&shelf, 0, "a.csv", false), "a file that is too large"),
+        (
+            asked(&shelf, 1, "none.csv", true),
+            "a file that isn't there",
+        ),
+        (asked(&shelf, 2, "a.csv", true), "a file whose fetch fails"),
+    ])
+}
+
+fn exit_codes() -> Result<(), Broken> {
+    hold(&[
+        (Status::Done.exit_code() == 0, "done"),
+        (Status::Refused.exit_code() == 1, "refused"),
+        (Status::Words.exit_code() == 2, "words"),
+        (Status::Read.exit_code() == 3, "read"),
+        (Status::Write.exit_code() == 4, "write"),
+        (Status::Shelf.exit_code() == 5, "shelf"),
+        (Status::Memory.exit_code() == 6, "memory"),
+        (Status::Long.exit_code() == 7, "long"),
+    ])
+}
+
 fn clean_ends(alloc: Global) -> Result<(), Broken> {
     let mut source = CleanSource::new(b"ab".to_vec(alloc)?);
     let mut room = [0; 4];
@@ -97,6 +137,8 @@ fn real_ends() -> Result<(), Broken> {
 fn all(alloc: Global) -> Result<(), Broken> {
     sinks_in_memory(alloc)?;
     shelves_in_memory(alloc)?;
+    asks_in_memory(alloc)?;
+    exit_codes()?;
     clean_ends(alloc)?;
     real_ends()
 }
