@@ -56,10 +56,10 @@ plan_from case kinds box plan every quiet sole = record {
         quiet.settled r (slice_index plan r) (sole.each r low).0 struck
 
 pub ends_in_plan : (case : Case) (n : ℕ) (log : List LogLine) (path : List Cond) (kinds : List Kind) (box : Box) (plan : List ℕ)
-    → IsSearching case n log path → HasEveryKind kinds → IsQuiet case kinds true (members box) → AreSole case box plan → IsSolved case n log (planned plan)
+    → IsSearching case n 0 log path → HasEveryKind kinds → IsQuiet case kinds true (members box) → AreSole case box plan → IsSolved case n log (planned plan)
 ends_in_plan case n log path kinds box plan at every quiet sole = record { started = at.started; ends = plan_from case kinds box plan every quiet sole }
 
-pub ends_spent : (case : Case) (n : ℕ) (log : List LogLine) (path : List Cond) (box : Box) (c k j : ℕ) → IsSearching case n log path
+pub ends_spent : (case : Case) (n : ℕ) (log : List LogLine) (path : List Cond) (box : Box) (c k j : ℕ) → IsSearching case n 0 log path
     → IsClosed case path (members box) → count_by is_branch log ≡ n → c < length case.carriers
     → box c k ≡ true → box c j ≡ true → (j ≡ k → ⊥) → IsSolved case n log spent
 ends_spent case n log path box c k j at closed all known here there other = record {

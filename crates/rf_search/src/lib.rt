@@ -1,15 +1,19 @@
 //! The search: branchings and nogoods over a trail, with a log of every step.
 #![tactic(auto)]
 
+mod analysis;
 mod answer;
 mod choice;
+mod closing;
+mod handing;
 mod hints;
 mod laws;
 mod level;
 mod limits;
-mod needed;
 mod out;
 mod problem;
+mod refuting;
+mod replay;
 mod run;
 mod search;
 mod solving;

@@ -13,12 +13,13 @@ use crate::solving::{SolveFault, solve_by};
 use rf_base::{Items, NoMemory};
 use rf_domain::Domains;
 use rf_find::{Advice, find};
+use rf_nogoods::Nogoods;
 use rf_problem::Problem;
-use rf_propagate::{Engine, Outcome};
-use rf_props::{ProblemTheory, Rules, engine_of, settle, trail_of};
+use rf_propagate::{Both, Engine, Outcome};
+use rf_props::{ProblemTheory, Rules, engine_with, trail_of};
 use std::alloc::Global;
 
-/// Searches for a plan of a problem with at most `budget` branchings. The lines of the log are handed out in the end.
+/// Searches for a plan of a problem with at most `budget` branchings. Each line of the log is handed out as soon as it is made.
 /// `LogFault` comes only where the output's count rose, `Memory` where no memory is found.
 pub fn solve<L: LogOut>(
     alloc: Global,
@@ -46,7 +47,7 @@ pub fn solve<L: LogOut>(
     let Ok(trail) = trail_of(alloc, problem) else {
         return Err(SolveFault::Memory);
     };
-    let mut engine = engine_of(theory);
+    let mut engine = engine_with(theory, Nogoods::new(alloc));
     let Ok(advice) = advice_for(alloc, problem, &mut engine, budget) else {
         return Err(SolveFault::Memory);
     };
@@ -57,7 +58,7 @@ pub fn solve<L: LogOut>(
 fn advice_for<'a>(
     alloc: Global,
     problem: &Problem,
-    engine: &mut Engine<ProblemTheory<'a>, Rules>,
+    engine: &mut Engine<ProblemTheory<'a>, Both<Rules, Nogoods>>,
     budget: u32,
 ) -> Result<Items<Advice>, NoMemory>
     requires { engine.old.theory.problem.now ≡ problem.now }
@@ -67,7 +68,7 @@ fn advice_for<'a>(
         return Ok(Items::from_vec(Vec::new(alloc)));
     }
     let mut trail = trail_of(alloc, problem)?;
-    match settle(engine, &mut trail)? {
+    match engine.settle(&mut trail)? {
         Outcome::Quiet if is_open(trail.domains()) => Ok(find(alloc, problem)?.advice),
         _ => Ok(Items::from_vec(Vec::new(alloc))),
     }

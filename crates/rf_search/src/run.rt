@@ -1,116 +1,225 @@
-ghost use Rattle.std.specs.Prelude.{◌≡◌, ℕ, None, Some, Ok, IfOk, OnOk};
-ghost use Rattle.rf_log.specs.Case.{Case};
+ghost use Rattle.std.specs.Prelude.{◌≡◌, ◌<◌, ◌≤◌, ℕ, None, Some, Ok, Err, IfOk, IfErr, OnOk, length};
+ghost use Rattle.rf_base.specs.Cause.{Rose};
 ghost use Rattle.rf_log.specs.Relations.{IsEmptied};
 ghost use Rattle.rf_trail.specs.Trace.{box_of};
 ghost use Rattle.rf_search.specs.declared.answer.Answer.{Answer};
 ghost use Rattle.rf_search.specs.Answers.{ending_of};
-ghost use Rattle.rf_search.specs.State.{IsUnderWay, IsSomewhere, IsFresh, IsReplayed, effort};
-ghost use Rattle.rf_search.specs.Turns.{IsWhole, IsAtRest, GoesOn, HasEnded};
+ghost use Rattle.rf_search.specs.State.{IsWriting, IsStopped, IsFailed, effort};
+ghost use Rattle.rf_search.specs.Turns.{IsWhole, IsAtRest, IsBranching, HasEnded};
 
 use crate::answer::Answer;
-use crate::choice::{choose, plan_of};
+use crate::choice::{Choice, choose, plan_of};
+use crate::closing::{go_up_all, hand_nogood};
+use crate::handing::hand;
+use crate::level::Level;
+use crate::out::LogOut;
+use crate::refuting::{conds_of, refute};
 use crate::search::Search;
-use crate::turn::turn;
-use rf_base::{Items, NoMemory};
+use crate::solving::SolveFault;
+use rf_base::Items;
 use rf_find::Advice;
-use rf_propagate::{Engine, Outcome, Propagator, Theory};
+use rf_log::{Cond, Cut, LogLine};
+use rf_propagate::{Applies, Engine, Grows, Learns, Outcome, Propagator, Theory};
 use std::alloc::Global;
 
-/// Closes the side of the tree in which a carrier has no index left. It is the end where no side is left.
-fn close(alloc: Global, search: &mut Search) -> Result<Option<Answer>, NoMemory>
-    requires { IsSomewhere search.old }
-    ensures on { (case : Case) (c : ℕ) → result ≡ Ok None → IsUnderWay case search.old → IsReplayed case search.old → IsEmptied case (box_of search.old.trail) c → GoesOn case search.old search.new }
-    ensures ended { (answer : Answer) (case : Case) (c : ℕ) → result ≡ Ok (Some answer) → IsUnderWay case search.old → IsReplayed case search.old → IsEmptied case (box_of search.old.trail) c
-        → HasEnded case search.new (ending_of answer) }
+/// Closes the side of the tree in which a carrier has no index left, and learns why. It is the end where no side is left.
+fn close<T: Grows + Applies, P: Learns<T>, L: LogOut>(
+    alloc: Global,
+    engine: &mut Engine<T, P>,
+    search: &mut Search,
+    carrier: usize,
+    out: &mut L,
+) -> Result<Option<Answer>, SolveFault>
+    ghost first: { L }
+    requires writing { IsWriting L.taken (T.case engine.old.theory) (T.lines engine.old.theory) search.old first out.old }
+    requires emptied { IsEmptied (T.case engine.old.theory) (box_of search.old.trail) carrier }
+    requires carriers { L.carriers out.old ≡ length (T.case engine.old.theory).carriers }
+    ensures carriers { L.carriers out.new ≡ L.carriers out.old }
+    ensures case { T.case engine.new.theory ≡ T.case engine.old.theory }
+    ensures kinds { P.kinds engine.new.propagator ≡ P.kinds engine.old.propagator }
+    ensures bans { P.bans engine.new.propagator ≡ P.bans engine.old.propagator }
+    ensures on { result ≡ Ok None → IsWriting L.taken (T.case engine.old.theory) (T.lines engine.new.theory) search.new first out.new }
+    ensures less { result ≡ Ok None → effort search.new < effort search.old }
+    ensures ended { (answer : Answer) → result ≡ Ok (Some answer) → HasEnded L.taken (T.case engine.old.theory) search.old.budget first out.new (ending_of answer) }
     ensures budget { OnOk result (search.new.budget ≡ search.old.budget) }
+    ensures failed { result ≡ Err SolveFault.LogFault → IsFailed L.taken L.failed (T.case engine.old.theory) search.old.budget first out.new }
+    ensures memory { result ≡ Err SolveFault.Memory → IsStopped L.taken (T.case engine.old.theory) search.old.budget first out.new }
+    ensures cause { result ≡ Err SolveFault.LogFault → Rose (L.faults out.old) (L.faults out.new) }
+    ensures later { L.faults out.old ≤ L.faults out.new }
 {
-    search.refute(alloc)?;
-    if turn(&mut search.trail, &mut search.levels)? {
-        return Ok(None);
+    let Ok(line) = refute(alloc, engine.theory(), search, carrier) else {
+        return Err(SolveFault::Memory);
+    };
+    let conds = conds_of(&line);
+    let number = search.lines + 1;
+    hand_nogood(engine.theory(), search, &line, conds, out)?;
+    if !go_up_all(engine.theory(), search, number, conds, out)? {
+        return Ok(Some(Answer::Refuted));
     }
-    Ok(Some(Answer::Refuted))
+    match engine.learn(number, conds) {
+        Ok(()) => Ok(None),
+        Err(_) => Err(SolveFault::Memory),
+    }
 }
 
 /// Branches, where nothing more falls. It is the end where each carrier has one index, or where the budget is used up.
-fn go_down(
+fn go_down<T: Theory, L: LogOut>(
     alloc: Global,
+    theory: &T,
     search: &mut Search,
     advice: &[Advice],
-) -> Result<Option<Answer>, NoMemory>
-    requires { IsSomewhere search.old }
-    ensures on { (case : Case) → result ≡ Ok None → IsUnderWay case search.old → IsAtRest case search.old → GoesOn case search.old search.new }
-    ensures ended { (answer : Answer) (case : Case) → result ≡ Ok (Some answer) → IsUnderWay case search.old → IsAtRest case search.old
-        → HasEnded case search.new (ending_of answer) }
+    out: &mut L,
+) -> Result<Option<Answer>, SolveFault>
+    ghost first: { L }
+    requires writing { IsWriting L.taken (T.case theory.now) (T.lines theory.now) search.old first out.old }
+    requires rest { IsAtRest (T.case theory.now) search.old }
+    requires carriers { L.carriers out.old ≡ length (T.case theory.now).carriers }
+    ensures carriers { L.carriers out.new ≡ L.carriers out.old }
+    ensures on { result ≡ Ok None → IsWriting L.taken (T.case theory.now) (T.lines theory.now) search.new first out.new }
+    ensures less { result ≡ Ok None → effort search.new < effort search.old }
+    ensures ended { (answer : Answer) → result ≡ Ok (Some answer) → HasEnded L.taken (T.case theory.now) search.old.budget first out.new (ending_of answer) }
     ensures budget { OnOk result (search.new.budget ≡ search.old.budget) }
+    ensures failed { result ≡ Err SolveFault.LogFault → IsFailed L.taken L.failed (T.case theory.now) search.old.budget first out.new }
+    ensures memory { result ≡ Err SolveFault.Memory → IsStopped L.taken (T.case theory.now) search.old.budget first out.new }
+    ensures cause { result ≡ Err SolveFault.LogFault → Rose (L.faults out.old) (L.faults out.new) }
+    ensures later { L.faults out.old ≤ L.faults out.new }
 {
     let Some(choice) = choose(&search.trail, advice) else {
-        let plan = plan_of(alloc, &search.trail)?;
+        let Ok(plan) = plan_of(alloc, &search.trail) else {
+            return Err(SolveFault::Memory);
+        };
         return Ok(Some(Answer::Plan(Items::from_vec(plan))));
     };
     if search.branches >= search.budget {
         return Ok(Some(Answer::Spent));
     }
-    search.branch(choice)?;
+    branch(theory, search, choice, out)?;
     Ok(None)
 }
 
+// Hands out a branch line, and goes down its left side: the choice's index alone.
+fn branch<T: Theory, L: LogOut>(
+    theory: &T,
+    search: &mut Search,
+    choice: Choice,
+    out: &mut L,
+) -> Result<(), SolveFault>
+    ghost first: { L }
+    requires writing { IsWriting L.taken (T.case theory.now) (T.lines theory.now) search.old first out.old }
+    requires branching { IsBranching (T.case theory.now) search.old choice }
+    requires left { search.old.branches < search.old.budget }
+    requires carriers { L.carriers out.old ≡ length (T.case theory.now).carriers }
+    ensures carriers { L.carriers out.new ≡ L.carriers out.old }
+    ensures ok { OnOk result (IsWriting L.taken (T.case theory.now) (T.lines theory.now) search.new first out.new) }
+    ensures less { OnOk result (effort search.new < effort search.old) }
+    ensures budget { OnOk result (search.new.budget ≡ search.old.budget) }
+    ensures failed { result ≡ Err SolveFault.LogFault → IsFailed L.taken L.failed (T.case theory.now) search.old.budget first out.new }
+    ensures memory { result ≡ Err SolveFault.Memory → IsStopped L.taken (T.case theory.now) search.old.budget first out.new }
+    ensures cause { result ≡ Err SolveFault.LogFault → Rose (L.faults out.old) (L.faults out.new) }
+    ensures later { L.faults out.old ≤ L.faults out.new }
+{
+    let carrier = choice.carrier as u32;
+    let cond = Cond {
+        carrier,
+        inside: true,
+        lo: choice.at,
+        hi: choice.at,
+    };
+    hand(
+        out,
+        &LogLine::Branch {
+            cut: Cut::Fix,
+            carrier,
+            at: choice.at,
+        },
+    )?;
+    search.lines += 1;
+    search.branches += 1;
+    let mark = search.trail.mark();
+    let Ok(()) = search.levels.push(Level { cond, mark }) else {
+        return Err(SolveFault::Memory);
+    };
+    let Ok(()) = search.trail.decide(cond) else {
+        return Err(SolveFault::Memory);
+    };
+    Ok(())
+}
+
 /// Has the engine remove what it can.
-fn settle<T: Theory, P: Propagator<T>>(
+fn settle<T: Theory, P: Propagator<T>, L: LogOut>(
     engine: &mut Engine<T, P>,
     search: &mut Search,
-) -> Result<Outcome, NoMemory>
-    requires under_way { IsUnderWay (T.case engine.old.theory) search.old }
-    requires fresh { IsFresh (T.case engine.old.theory) search.old }
-    requires whole { IsWhole (T.lines engine.old.theory) (P.kinds engine.old.propagator) (P.bans engine.old.propagator) }
+    out: &L,
+) -> Result<Outcome, SolveFault>
+    ghost first: { L }
+    requires writing { IsWriting L.taken (T.case engine.old.theory) (T.lines engine.old.theory) search.old first out.now }
+    requires whole { IsWhole (P.kinds engine.old.propagator) (P.bans engine.old.propagator) }
     ensures theory { engine.new.theory ≡ engine.old.theory }
-    ensures whole { IsWhole (T.lines engine.new.theory) (P.kinds engine.new.propagator) (P.bans engine.new.propagator) }
-    ensures under_way { IsUnderWay (T.case engine.old.theory) search.new }
-    ensures replayed { IsReplayed (T.case engine.old.theory) search.new }
+    ensures whole { IsWhole (P.kinds engine.new.propagator) (P.bans engine.new.propagator) }
+    ensures writing { IsWriting L.taken (T.case engine.old.theory) (T.lines engine.old.theory) search.new first out.now }
     ensures rest { result ≡ Ok Outcome.Quiet → IsAtRest (T.case engine.old.theory) search.new }
     ensures wiped { (c : ℕ) → result ≡ Ok (Outcome.Wiped c) → IsEmptied (T.case engine.old.theory) (box_of search.new.trail) c }
     ensures budget { search.new.budget ≡ search.old.budget }
     ensures effort { effort search.new ≡ effort search.old }
+    ensures err { IfErr result (λ fault. fault ≡ SolveFault.Memory) }
 {
-    engine.settle(&mut search.trail)
+    match engine.settle(&mut search.trail) {
+        Ok(outcome) => Ok(outcome),
+        Err(_) => Err(SolveFault::Memory),
+    }
 }
 
 /// One turn of a search: what the engine can remove, and then a closed side, a branching or an end.
-fn step<T: Theory, P: Propagator<T>>(
+fn step<T: Grows + Applies, P: Learns<T>, L: LogOut>(
     alloc: Global,
     engine: &mut Engine<T, P>,
     search: &mut Search,
     advice: &[Advice],
-) -> Result<Option<Answer>, NoMemory>
-    requires under_way { IsUnderWay (T.case engine.old.theory) search.old }
-    requires fresh { IsFresh (T.case engine.old.theory) search.old }
-    requires whole { IsWhole (T.lines engine.old.theory) (P.kinds engine.old.propagator) (P.bans engine.old.propagator) }
-    ensures theory { engine.new.theory ≡ engine.old.theory }
-    ensures whole { IsWhole (T.lines engine.new.theory) (P.kinds engine.new.propagator) (P.bans engine.new.propagator) }
-    ensures on { result ≡ Ok None → GoesOn (T.case engine.old.theory) search.old search.new }
-    ensures ended { (answer : Answer) → result ≡ Ok (Some answer) → HasEnded (T.case engine.old.theory) search.new (ending_of answer) }
+    out: &mut L,
+) -> Result<Option<Answer>, SolveFault>
+    ghost first: { L }
+    requires writing { IsWriting L.taken (T.case engine.old.theory) (T.lines engine.old.theory) search.old first out.old }
+    requires whole { IsWhole (P.kinds engine.old.propagator) (P.bans engine.old.propagator) }
+    requires carriers { L.carriers out.old ≡ length (T.case engine.old.theory).carriers }
+    ensures carriers { L.carriers out.new ≡ L.carriers out.old }
+    ensures case { T.case engine.new.theory ≡ T.case engine.old.theory }
+    ensures whole { IsWhole (P.kinds engine.new.propagator) (P.bans engine.new.propagator) }
+    ensures on { result ≡ Ok None → IsWriting L.taken (T.case engine.old.theory) (T.lines engine.new.theory) search.new first out.new }
+    ensures less { result ≡ Ok None → effort search.new < effort search.old }
+    ensures ended { (answer : Answer) → result ≡ Ok (Some answer) → HasEnded L.taken (T.case engine.old.theory) search.old.budget first out.new (ending_of answer) }
     ensures budget { OnOk result (search.new.budget ≡ search.old.budget) }
+    ensures failed { result ≡ Err SolveFault.LogFault → IsFailed L.taken L.failed (T.case engine.old.theory) search.old.budget first out.new }
+    ensures memory { result ≡ Err SolveFault.Memory → IsStopped L.taken (T.case engine.old.theory) search.old.budget first out.new }
+    ensures cause { result ≡ Err SolveFault.LogFault → Rose (L.faults out.old) (L.faults out.new) }
+    ensures later { L.faults out.old ≤ L.faults out.new }
 {
-    match settle(engine, search)? {
-        Outcome::Wiped(_) => close(alloc, search),
-        Outcome::Quiet => go_down(alloc, search, advice),
+    match settle(engine, search, out)? {
+        Outcome::Wiped(carrier) => close(alloc, engine, search, carrier, out),
+        Outcome::Quiet => go_down(alloc, engine.theory(), search, advice, out),
     }
 }
 
 /// Searches to an end. Where it branches goes by what is advised.
-pub fn run<T: Theory, P: Propagator<T>>(
+pub fn run<T: Grows + Applies, P: Learns<T>, L: LogOut>(
     alloc: Global,
     engine: &mut Engine<T, P>,
     search: &mut Search,
     advice: &[Advice],
-) -> Result<Answer, NoMemory>
-    requires under_way { IsUnderWay (T.case engine.old.theory) search.old }
-    requires fresh { IsFresh (T.case engine.old.theory) search.old }
-    requires whole { IsWhole (T.lines engine.old.theory) (P.kinds engine.old.propagator) (P.bans engine.old.propagator) }
-    ensures ended { IfOk result (λ answer. HasEnded (T.case engine.old.theory) search.new (ending_of answer)) }
-    ensures budget { OnOk result (search.new.budget ≡ search.old.budget) }
+    out: &mut L,
+) -> Result<Answer, SolveFault>
+    ghost first: { L }
+    requires writing { IsWriting L.taken (T.case engine.old.theory) (T.lines engine.old.theory) search.old first out.old }
+    requires whole { IsWhole (P.kinds engine.old.propagator) (P.bans engine.old.propagator) }
+    requires carriers { L.carriers out.old ≡ length (T.case engine.old.theory).carriers }
+    ensures carriers { L.carriers out.new ≡ L.carriers out.old }
+    ensures ended { IfOk result (λ answer. HasEnded L.taken (T.case engine.old.theory) search.old.budget first out.new (ending_of answer)) }
+    ensures failed { result ≡ Err SolveFault.LogFault → IsFailed L.taken L.failed (T.case engine.old.theory) search.old.budget first out.new }
+    ensures memory { result ≡ Err SolveFault.Memory → IsStopped L.taken (T.case engine.old.theory) search.old.budget first out.new }
+    ensures cause { result ≡ Err SolveFault.LogFault → Rose (L.faults out.old) (L.faults out.new) }
+    ensures later { L.faults out.old ≤ L.faults out.new }
 {
     'turns: loop {
-        if let Some(answer) = step(alloc, engine, search, advice)? {
+        if let Some(answer) = step(alloc, engine, search, advice, out)? {
             return Ok(answer);
         }
     }

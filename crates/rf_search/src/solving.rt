@@ -10,12 +10,11 @@ ghost use Rattle.rf_search.specs.Out.{IsWritable, Leads, LeadsToFailed};
 ghost use Rattle.rf_search.specs.Turns.{IsWhole};
 
 use crate::answer::Answer;
-use crate::out::{LogFail, LogOut};
+use crate::out::LogOut;
 use crate::run::run;
 use crate::search::Search;
 use rf_find::Advice;
-use rf_log::LogLine;
-use rf_propagate::{Engine, Propagator, Theory};
+use rf_propagate::{Applies, Engine, Grows, Learns};
 use rf_trail::Trail;
 use std::alloc::Global;
 
@@ -28,31 +27,10 @@ pub enum SolveFault {
     Memory,
 }
 
-/// Hands lines out, one after another.
-fn hand_out<L: LogOut>(lines: &[LogLine], out: &mut L) -> Result<(), SolveFault>
-    requires { All (IsWritable (L.carriers out.old)) lines.now }
-    ensures carriers { L.carriers out.new ≡ L.carriers out.old }
-    ensures ok { OnOk result (Leads L.taken out.old lines.now out.new) }
-    ensures failed { result ≡ Err SolveFault.LogFault → (k : ℕ) × LeadsToFailed L.taken L.failed out.old (take k lines.now) out.new }
-    ensures memory { result ≡ Err SolveFault.Memory → (k : ℕ) × Leads L.taken out.old (take k lines.now) out.new }
-    ensures cause { result ≡ Err SolveFault.LogFault → Rose (L.faults out.old) (L.faults out.new) }
-    ensures later { L.faults out.old ≤ L.faults out.new }
-{
-    for line in lines {
-        match out.line(line) {
-            Ok(()) => {}
-            Err(LogFail::Failed) => return Err(SolveFault::LogFault),
-            Err(LogFail::Memory) => return Err(SolveFault::Memory),
-        }
-    }
-    Ok(())
-}
-
 /// Searches with an engine of every kind and of bans, over a trail that was made with its theory's counts and has no
-/// entries. The budget is the most branchings. What is advised for each
-/// carrier says where it branches, and nothing of what comes of that hangs on it. The lines of the log are handed out in the end. `LogFault` comes only where
-/// the output's count rose.
-pub fn solve_by<T: Theory, P: Propagator<T>, L: LogOut>(
+/// entries. The budget is the most branchings. What is advised for each carrier says where it branches, and nothing of what comes of
+/// that hangs on it. Each line of the log is handed out as soon as it is made. `LogFault` comes only where the output's count rose.
+pub fn solve_by<T: Grows + Applies, P: Learns<T>, L: LogOut>(
     alloc: Global,
     engine: &mut Engine<T, P>,
     trail: Trail,
@@ -64,7 +42,8 @@ pub fn solve_by<T: Theory, P: Propagator<T>, L: LogOut>(
     requires small { AreCounts (counts_of (T.case engine.old.theory)) }
     requires new { trail.entries ≡ [] }
     requires budget { budget ≤ MAX_BUDGET }
-    requires whole { IsWhole (T.lines engine.old.theory) (P.kinds engine.old.propagator) (P.bans engine.old.propagator) }
+    requires alone { T.lines engine.old.theory ≡ [] }
+    requires whole { IsWhole (P.kinds engine.old.propagator) (P.bans engine.old.propagator) }
     requires carriers { L.carriers out.old ≡ length (T.case engine.old.theory).carriers }
     ensures carriers { L.carriers out.new ≡ L.carriers out.old }
     // the lines that were taken and the answer are what a solver owes
@@ -79,11 +58,5 @@ pub fn solve_by<T: Theory, P: Propagator<T>, L: LogOut>(
     ensures later { L.faults out.old ≤ L.faults out.new }
 {
     let mut search = Search::new(alloc, trail, budget);
-    let Ok(answer) = run(alloc, engine, &mut search, advice) else {
-        return Err(SolveFault::Memory);
-    };
-    match hand_out(search.log.as_slice(), out) {
-        Ok(()) => Ok(answer),
-        Err(fault) => Err(fault),
-    }
+    run(alloc, engine, &mut search, advice, out)
 }

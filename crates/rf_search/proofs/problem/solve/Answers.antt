@@ -13,9 +13,11 @@ returns-in_default-trail_of-clause-memory g c = λ is. ([], none, started_none _
 pub returns-in_default-advice_for-clause-memory : goal.returns-in_default-advice_for-clause-memory
 returns-in_default-advice_for-clause-memory g c = λ is. ([], none, started_none _ _)
 
+pub solve_by-requires-clause-alone : goal.solve_by-requires-clause-alone
+solve_by-requires-clause-alone g c = ap (λ t. t.lines) (c.advice_for.ensures ∙ c.engine_with-engine.ensures.theory) ∙ c.in-Ok.ensures.lines
+
 pub solve_by-requires-clause-whole : goal.solve_by-requires-clause-whole
 solve_by-requires-clause-whole g c = record {
-  alone = ap (λ t. t.lines) (c.advice_for.ensures ∙ c.engine_of-engine.ensures) ∙ c.in-Ok.ensures.lines;
   every = record { each = every_kind };
   asked = refl;
 }

@@ -1,0 +1,233 @@
+-- Hints that are applied in order until a set is empty.
+use Rattle.std.proofs.Common.{◌≡◌, ℕ, zero, suc, ◌+◌, ◌-◌, ◌<◌, ◌≤◌, ◌==◌, List, [], ◌∷◌, ◌++◌, length, take, drop, get_or, Bool, true, false, not, ◌&&◌, ◌||◌, refl, sym, ◌∙◌, ap, subst, arith, inl, inr}
+use Rattle.std.specs.Prelude.{Option, Some, None, All, nat_lt, slice_index_or, if◌then◌else◌}
+use Rattle.std.specs.List.{list_all}
+use Rattle.std.proofs.lemmas.List.{take_more, take_all, length-map}
+use Rattle.std.proofs.lemmas.Bool.{cases_Bool, cases_lt, cases_eq, and_parts, and_from, not_from_false, true≢false}
+use Rattle.std.proofs.lemmas.Bool.Decides.{nat_tests}
+use Rattle.std.proofs.Math.Path.{fun_ext}
+use Rattle.rf_log.specs.declared.cond.Cond.{Cond}
+use Rattle.rf_log.specs.declared.hint.Hint.{Hint}
+use Rattle.rf_log.specs.Case.{Case, counts_of, count_of}
+use Rattle.rf_log.specs.Box.{Box, each_below, has_none, between, is_met, is_met_by, box_of, is_dead}
+use Rattle.rf_log.specs.Hints.{effect_of, after_hints_of, is_dead_after}
+use Rattle.rf_domain.specs.Indices.{outside}
+use Rattle.rf_domain.specs.Sets as sets
+use Rattle.rf_propagate.specs.Applied.{IsHintIn}
+use Rattle.rf_search.specs.Replays.{IsReplayed, IsNotReplayed, IsScratch}
+use Rattle.rf_search.proofs.WholeTrail.{after_push}
+use Rattle.rf_search.proofs.Narrow.{Lives}
+use Rattle.rf_search.proofs.Sizes.{size_is}
+use Rattle.rf_search.proofs.LineValid.{dead_from}
+use Rattle.rf_log.proofs.Kept.{each_below-at, each_below-from}
+use Rattle.rf_log.proofs.Instances.{counts_length}
+use Rattle.rf_domain.proofs.SetsLemmas.{size_get}
+use Rattle.rf_domain.specs.Indices.{HasNoneFrom}
+
+-- ---- the box of conditions
+
+all_last : {A : Type 0} (p : A → Bool) (xs : List A) (x : A) → list_all p (xs ++ x ∷ []) ≡ (list_all p xs && p x)
+all_last p [] x = last (p x)
+  where
+    last : (b : Bool) → (b && true) ≡ b
+    last true = refl
+    last false = refl
+all_last p (y ∷ ys) x = ap (λ t. p y && t) (all_last p ys x) ∙ assoc (p y) (list_all p ys) (p x)
+  where
+    assoc : (a b c : Bool) → (a && (b && c)) ≡ ((a && b) && c)
+    assoc true b c = refl
+    assoc false b c = refl
+
+box_more : (case : Case) (conds : List Cond) (cond : Cond) (c k : ℕ) → box_of case (conds ++ cond ∷ []) c k ≡ (box_of case conds c k && is_met_by c k cond)
+box_more case conds cond c k = ap (λ t. nat_lt k (count_of case c) && t) (all_last (is_met_by c k) conds cond) ∙ assoc (nat_lt k (count_of case c)) (list_all (is_met_by c k) conds) (is_met_by c k cond)
+  where
+    assoc : (a b c : Bool) → (a && (b && c)) ≡ ((a && b) && c)
+    assoc true b c = refl
+    assoc false b c = refl
+
+swapped : (a b : ℕ) → (a == b) ≡ (b == a)
+swapped a b = grind (arith, nat_tests)
+
+kept_in : (b same t : Bool) → (b && not (same && not t)) ≡ (b && (not same || t))
+kept_in false same t = refl
+kept_in true false t = refl
+kept_in true true true = refl
+kept_in true true false = refl
+
+kept_out : (b same t : Bool) → (b && not (same && t)) ≡ (b && (not same || not t))
+kept_out false same t = refl
+kept_out true false t = refl
+kept_out true true true = refl
+kept_out true true false = refl
+
+pub narrow_in : (case : Case) (conds : List Cond) (cond : Cond) (old new : Box) → cond.inside ≡ true → old ≡ box_of case conds
+    → new ≡ sets.without old cond.carrier (outside cond.lo cond.hi) → new ≡ box_of case (conds ++ cond ∷ [])
+narrow_in case conds cond old new in_ is cut = cut ∙ fun_ext λ c. fun_ext λ k.
+    kept_in (old c k) (c == cond.carrier) (between cond.lo cond.hi k)
+    ∙ ap (λ t. old c k && (not t || between cond.lo cond.hi k)) (swapped c cond.carrier)
+    ∙ ap (λ t. old c k && (not (cond.carrier == c) || t)) (sym (ap (λ (t : Bool). if t then between cond.lo cond.hi k else not (between cond.lo cond.hi k)) in_))
+    ∙ ap (λ (f : Box). f c k && is_met_by c k cond) is
+    ∙ sym (box_more case conds cond c k)
+
+pub narrow_out : (case : Case) (conds : List Cond) (cond : Cond) (old new : Box) → cond.inside ≡ false → old ≡ box_of case conds
+    → new ≡ sets.without old cond.carrier (between cond.lo cond.hi) → new ≡ box_of case (conds ++ cond ∷ [])
+narrow_out case conds cond old new out is cut = cut ∙ fun_ext λ c. fun_ext λ k.
+    kept_out (old c k) (c == cond.carrier) (between cond.lo cond.hi k)
+    ∙ ap (λ t. old c k && (not t || not (between cond.lo cond.hi k))) (swapped c cond.carrier)
+    ∙ ap (λ t. old c k && (not (cond.carrier == c) || t)) (sym (ap (λ (t : Bool). if t then between cond.lo cond.hi k else not (between cond.lo cond.hi k)) out))
+    ∙ ap (λ (f : Box). f c k && is_met_by c k cond) is
+    ∙ sym (box_more case conds cond c k)
+
+-- ---- the hints
+
+-- the first hints have an effect, and none of their first parts empties a set
+pub record IsOnWay (case : Case) (found : ℕ → Option (List Cond)) (b : Box) (hints : List Hint) (now : Box) (n : ℕ) : Type 0 where
+  pub works : after_hints_of case found b (take n hints) ≡ Some now
+  pub fit : All (IsHintIn case) (take n hints)
+  pub living : (m : ℕ) → m < n → is_dead_after case (after_hints_of case found b (take m hints)) ≡ false
+
+pub way_start : (case : Case) (found : ℕ → Option (List Cond)) (b : Box) (hints : List Hint) → IsOnWay case found b hints b 0
+way_start case found b hints = record { works = refl; fit = λ k d low. absurd (omega arith); living = λ m low. absurd (omega arith) }
+
+pub all_more : {A : Type 0} (P : A → Type 0) (xs : List A) (x : A) → All P xs → P x → All P (xs ++ x ∷ [])
+all_more P [] x all here zero d low = here
+all_more P [] x all here (suc k) d low = absurd (omega arith)
+all_more P (y ∷ ys) x all here zero d low = all 0 d (omega arith)
+all_more P (y ∷ ys) x all here (suc k) d low = all_more P ys x (λ j e below. all (suc j) e (omega arith)) here k d (omega arith)
+
+pub way_more : (case : Case) (found : ℕ → Option (List Cond)) (b : Box) (hints : List Hint) (now next : Box) (n : ℕ) (hint : Hint) → n < length hints
+    → get_or hints n hint ≡ hint → IsOnWay case found b hints now n → is_dead case now ≡ false → effect_of case found now hint ≡ Some next → IsHintIn case hint
+    → IsOnWay case found b hints next (n + 1)
+way_more case found b hints now next n hint low is way living works fits =
+    let one : take (n + 1) hints ≡ take n hints ++ hint ∷ [] = take_more hints n hint low ∙ ap (λ (h : Hint). take n hints ++ h ∷ []) is in
+    record {
+      works = ap (after_hints_of case found b) one ∙ after_push case found b now next (take n hints) hint way.works works;
+      fit = subst (λ (hs : List Hint). All (IsHintIn case) hs) (sym one) (all_more (IsHintIn case) (take n hints) hint way.fit fits);
+      living = λ m below. elim (cases_eq m n) [
+        | inl last ↦ ap (λ j. is_dead_after case (after_hints_of case found b (take j hints))) last ∙ ap (is_dead_after case) way.works ∙ living
+        | inr other ↦ way.living m (omega arith)
+      ];
+    }
+
+pub way_ends : (case : Case) (found : ℕ → Option (List Cond)) (b : Box) (hints : List Hint) (now : Box) (n : ℕ) → n ≤ length hints
+    → IsOnWay case found b hints now n → is_dead case now ≡ true → IsReplayed case found b hints n
+way_ends case found b hints now n within way dead = record { within = within; fit = way.fit; dead = ap (is_dead_after case) way.works ∙ dead }
+
+-- all hints leave each carrier an index
+pub way_none : (case : Case) (found : ℕ → Option (List Cond)) (b : Box) (hints : List Hint) (now : Box) (n : ℕ) → length hints ≤ n
+    → IsOnWay case found b hints now n → is_dead case now ≡ false → IsNotReplayed case found b hints
+way_none case found b hints now n past way living = record {
+  none = λ m within fit dead. elim (cases_lt m n) [
+    | inl below ↦ absurd (true≢false (sym dead ∙ way.living m below))
+    | inr above ↦
+        let same : take m hints ≡ take n hints = take_all m hints (omega arith) ∙ sym (take_all n hints past) in
+        absurd (true≢false (sym dead ∙ ap (λ hs. is_dead_after case (after_hints_of case found b hs)) same ∙ ap (is_dead_after case) way.works ∙ living))
+  ];
+}
+
+after_stuck : (case : Case) (found : ℕ → Option (List Cond)) (b mid : Box) (hs rest : List Hint) (hint : Hint)
+    → after_hints_of case found b hs ≡ Some mid → effect_of case found mid hint ≡ None → after_hints_of case found b (hs ++ hint ∷ rest) ≡ None
+after_stuck case found b mid [] rest hint first stuck =
+    let is : b ≡ mid = cc in
+    let here : effect_of case found b hint ≡ None = subst (λ (x : Box). effect_of case found x hint ≡ None) (sym is) stuck in
+    ap (λ (o : Option Box). elim o as (λ _. Option Box) [ None ↦ None | Some x ↦ after_hints_of case found x rest ]) here
+after_stuck case found b mid (h ∷ hs) rest hint first stuck =
+    let P : Option Box → Type 0 = λ o.
+    (elim o as (λ _. Option Box) [ None ↦ None | Some x ↦ after_hints_of case found x hs ]) ≡ Some mid
+    → (elim o as (λ _. Option Box) [ None ↦ None | Some x ↦ after_hints_of case found x (hs ++ hint ∷ rest) ]) ≡ None in
+    let all : (o : Option Box) → P o = λ o. elim o as P [
+      | None ↦ λ e. refl
+      | Some x ↦ λ e. after_stuck case found x mid hs rest hint e stuck
+    ] in
+    all (effect_of case found b h) first
+
+split_at : (hints : List Hint) (n m : ℕ) (hint : Hint) → n < m → m ≤ length hints → get_or hints n hint ≡ hint → (rest : List Hint) × (take m hints ≡ take n hints ++ hint ∷ rest)
+split_at [] n m hint low within is = absurd (omega arith)
+split_at (h ∷ hs) n zero hint low within is = absurd (omega arith)
+split_at (h ∷ hs) zero (suc m) hint low within is = (take m hs, ap (λ x. x ∷ take m hs) is)
+split_at (h ∷ hs) (suc n) (suc m) hint low within is =
+    let r = split_at hs n m hint (omega arith) (omega arith) is in (r.0, ap (λ xs. h ∷ xs) r.1)
+
+in_all : {A : Type 0} (P : A → Type 0) (xs ys : List A) (x : A) → All P (xs ++ x ∷ ys) → P x
+in_all P [] ys x all = all 0 x (omega arith)
+in_all P (y ∷ xs) ys x all = in_all P xs ys x (λ k d low. all (suc k) d (omega arith))
+
+-- a hint has no effect
+pub way_stuck : (case : Case) (found : ℕ → Option (List Cond)) (b : Box) (hints : List Hint) (now : Box) (n : ℕ) (hint : Hint) → n < length hints
+    → get_or hints n hint ≡ hint → IsOnWay case found b hints now n → is_dead case now ≡ false → (IsHintIn case hint → effect_of case found now hint ≡ None)
+    → IsNotReplayed case found b hints
+way_stuck case found b hints now n hint low is way living stuck = record {
+  none = λ m within fit dead. elim (cases_lt m n) [
+    | inl below ↦ absurd (true≢false (sym dead ∙ way.living m below))
+    | inr above ↦ elim (cases_eq m n) [
+      | inl here ↦ absurd (true≢false (sym dead ∙ ap (λ j. is_dead_after case (after_hints_of case found b (take j hints))) here ∙ ap (is_dead_after case) way.works ∙ living))
+      | inr past ↦
+          let r = split_at hints n m hint (omega arith) within is in
+          let fits = in_all (IsHintIn case) (take n hints) r.0 hint (subst (λ (hs : List Hint). All (IsHintIn case) hs) r.1 fit) in
+          let none = after_stuck case found b now (take n hints) r.0 hint way.works (stuck fits) in
+          absurd (true≢false (sym dead ∙ ap (λ hs. is_dead_after case (after_hints_of case found b hs)) r.1 ∙ ap (is_dead_after case) none))
+    ]
+  ];
+}
+
+-- ---- whether a set is empty
+
+pub living_not_dead : (case : Case) (box : Box) → Lives case box → is_dead case box ≡ false
+living_not_dead case box lives = elim (cases_Bool (is_dead case box)) [
+  | inr living ↦ living
+  | inl dead ↦
+      let each : each_below (length case.carriers) (λ c. not (has_none case box c)) ≡ true =
+      each_below-from (length case.carriers) (λ c. not (has_none case box c)) (λ c low. elim (cases_Bool (has_none case box c)) [
+        | inr some ↦ not_from_false _ some
+        | inl none ↦
+            let r = lives.each c low in
+            let gone : not (box c r.0) ≡ true = each_below-at (count_of case c) (λ k. not (box c k)) r.0 none r.1 in
+            let clash : not true ≡ true = ap not (sym r.2) ∙ gone in
+            absurd (true≢false (sym clash))
+      ]) in
+      absurd (true≢false (sym dead ∙ ap not each))
+]
+
+flag_low : (set : List Bool) (k : ℕ) → slice_index_or set k false ≡ true → k < length set
+flag_low [] k e = absurd (true≢false (sym e))
+flag_low (x ∷ xs) zero e = omega arith
+flag_low (x ∷ xs) (suc k) e = omega (arith, flag_low xs k e)
+
+pub living_sets : (case : Case) (ss : List (List Bool)) → sets.sizes ss ≡ counts_of case → ((c : ℕ) → c < length ss → (k : ℕ) × (sets.has ss c k ≡ true)) → is_dead case (sets.has ss) ≡ false
+living_sets case ss sized some = living_not_dead case (sets.has ss) (record {
+  each = λ c low.
+      let long : length ss ≡ length case.carriers = sym (length-map ss length) ∙ ap length sized ∙ counts_length case in
+      let at = some c (omega (arith, low, long)) in
+      let small : at.0 < sets.size_of (sets.sizes ss) c = subst (λ (n : ℕ). at.0 < n) (sym (size_get ss c)) (flag_low (slice_index_or ss c []) at.0 at.1) in
+      (at.0, subst (λ (n : ℕ). at.0 < n) (ap (λ (ns : List ℕ). sets.size_of ns c) sized ∙ size_is case c) small, at.1);
+})
+
+pub dead_sets : (case : Case) (ss : List (List Bool)) (c : ℕ) → sets.sizes ss ≡ counts_of case → c < length ss → HasNoneFrom (slice_index_or ss c []) 0 → is_dead case (sets.has ss) ≡ true
+dead_sets case ss c sized low none = dead_from case (sets.has ss) c (
+  (let long : length ss ≡ length (counts_of case) = sym (length-map ss length) ∙ ap length sized in omega (arith, low, long)),
+  λ k here. true≢false (sym here ∙ none.none k (omega arith)),
+)
+
+pub some_more : (ss : List (List Bool)) (c k : ℕ) → ((d : ℕ) → d < c → (j : ℕ) × (sets.has ss d j ≡ true)) → sets.has ss c k ≡ true → (d : ℕ) → d < c + 1 → (j : ℕ) × (sets.has ss d j ≡ true)
+some_more ss c k before here d low = elim (cases_eq d c) [
+  | inl last ↦ subst (λ (x : ℕ). (j : ℕ) × (sets.has ss x j ≡ true)) (sym last) (k, here)
+  | inr other ↦ before d (omega arith)
+]
+
+pub hint_at : (hints : List Hint) (n : ℕ) (d : Hint) → n < length hints → get_or hints n (get_or hints n d) ≡ get_or hints n d
+hint_at [] n d low = absurd (omega arith)
+hint_at (h ∷ hs) zero d low = refl
+hint_at (h ∷ hs) (suc n) d low = hint_at hs n d (omega arith)
+
+pub box_none : (case : Case) (counts : List ℕ) → counts ≡ counts_of case → sets.full counts ≡ box_of case []
+box_none case counts is = fun_ext λ c. fun_ext λ k.
+    ap (λ (ns : List ℕ). nat_lt k (sets.size_of ns c)) is ∙ (ap (nat_lt k) (size_is case c) ∙ sym (last (nat_lt k (count_of case c))))
+  where
+    last : (b : Bool) → (b && true) ≡ b
+    last true = refl
+    last false = refl
+
+pub cond_at : (conds : List Cond) (n : ℕ) (d : Cond) → n < length conds → slice_index_or conds n (slice_index_or conds n d) ≡ slice_index_or conds n d
+cond_at [] n d low = absurd (omega arith)
+cond_at (h ∷ hs) zero d low = refl
+cond_at (h ∷ hs) (suc n) d low = cond_at hs n d (omega arith)
