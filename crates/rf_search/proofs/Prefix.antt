@@ -1,7 +1,6 @@
 -- Hints of any kind: applied in order from the box of all decisions, they have effects until a set is empty.
-use Rattle.std.proofs.Common.{◌≡◌, ℕ, zero, suc, ◌+◌, ◌<◌, ◌==◌, List, [], ◌∷◌, ◌++◌, length, Bool, true, false, not, ◌&&◌, ◌||◌, refl, sym, ◌∙◌, ap, subst, arith, ◌⊎◌, inl, inr, slice_index, take, append_assoc}
-use Rattle.std.specs.Prelude.{Option, Some, None, if◌then◌else◌, nat_lt, nat_le, nat_eq}
-use Rattle.std.specs.List.{list_all}
+use Rattle.std.proofs.Common.{◌≡◌, ℕ, ◌==◌, List, [], ◌∷◌, ◌++◌, length, true, false, not, ◌&&◌, refl, sym, ◌∙◌, ap, subst, ◌⊎◌, inl, inr, slice_index, take, append_assoc}
+use Rattle.std.specs.Prelude.{Option, Some, None, nat_lt}
 use Rattle.std.proofs.lemmas.Bool.{cases_Bool, and_parts, and_from, true≢false, eqb-true, not_from_false}
 use Rattle.std.proofs.lemmas.List.{append-nil}
 use Rattle.rf_log.specs.declared.cond.Cond.{Cond}
@@ -12,16 +11,16 @@ use Rattle.rf_log.specs.Case.{Case, counts_of, count_of}
 use Rattle.rf_log.specs.Box.{Box, between, is_met, is_met_by, box_of, has_none, is_dead, without, nothing, each_below}
 use Rattle.rf_log.specs.Hints.{Line, line_at, left_open, by_open, by_line, is_barred, is_ruled_out, effect_of, after_hints_of, is_dead_after}
 use Rattle.rf_log.proofs.Kept.{some_when, each_below-at, each_below-from}
-use Rattle.rf_search.proofs.Narrow.{Lies, Lives, Narrows, keeps-living, lies-on, effect-narrows}
+use Rattle.rf_search.proofs.Narrow.{Lies, Lives, keeps-living, lies-on, effect-narrows}
 use Rattle.rf_domain.specs.Sets as sets
 use Rattle.rf_trail.specs.declared.entry.Entry.{Entry}
-use Rattle.rf_trail.specs.Trace.{has_of, decided, cut_of}
+use Rattle.rf_trail.specs.Trace.{has_of}
 use Rattle.rf_propagate.specs.Laws.{IsJustified}
 use Rattle.rf_search.specs.State.{Agrees}
 use Rattle.rf_search.proofs.Steps.{effect-agrees}
 use Rattle.rf_search.specs.Paths.{Grown, start, decide, because, hint_in, hints_of}
 use Rattle.rf_search.proofs.Sizes.{size_is, lives_from, decided_leaves}
-use Rattle.rf_search.proofs.WholeTrail.{cutting, same_cut, after_push, hints_decided, same_lies, cut_lies, and_true_is, head_and}
+use Rattle.rf_search.proofs.WholeTrail.{cutting, same_cut, after_push, hints_decided, same_lies, and_true_is, head_and}
 
 open-shrinks : (box next : Box) (conds : List Cond) → by_open box conds ≡ Some next → Lies next box
 open-shrinks box next [] e =

@@ -1,6 +1,6 @@
 -- Conditions and hints that were replayed are a valid nogood line.
-use Rattle.std.proofs.Common.{◌≡◌, ℕ, zero, suc, ◌+◌, ◌<◌, ◌≤◌, List, [], ◌∷◌, ◌++◌, length, take, Bool, true, false, ◌&&◌, refl, sym, ◌∙◌, ap, subst, arith, inl, inr, slice_index}
-use Rattle.std.specs.Prelude.{Option, Some, None, is_some, All, Contains, nat_lt, nat_le, slice_index_or}
+use Rattle.std.proofs.Common.{◌≡◌, ℕ, zero, suc, ◌<◌, ◌≤◌, List, [], ◌∷◌, length, take, true, refl, sym, ◌∙◌, ap, subst, arith, slice_index}
+use Rattle.std.specs.Prelude.{Option, Some, None, is_some, All, Contains, nat_lt, slice_index_or}
 use Rattle.std.specs.List.{list_all}
 use Rattle.std.proofs.lemmas.List.Elements.{All-nil, All-cons}
 use Rattle.std.proofs.lemmas.Bool.{and_parts, and_from, true≢false, lt-ltb}
@@ -9,16 +9,15 @@ use Rattle.rf_log.specs.declared.cond.Cond.{Cond}
 use Rattle.rf_log.specs.declared.hint.Hint.{Hint}
 use Rattle.rf_log.specs.declared.hint.Hint.TheVariants.{Earlier, Ban, Rule}
 use Rattle.rf_log.specs.declared.line.LogLine.{LogLine}
-use Rattle.rf_log.specs.declared.line.LogLine.TheVariants.{Nogood, Branch, Up}
 use Rattle.rf_log.specs.Case.{Case, counts_of}
 use Rattle.rf_log.specs.Box.{Box, box_of}
-use Rattle.rf_log.specs.Hints.{Line, line_at, nogood_at, conds_in, by_line, effect_of, after_hints_of, is_dead_after}
-use Rattle.rf_log.specs.Walk.{knows_cond, fits_cond, fits, cause_of}
+use Rattle.rf_log.specs.Hints.{Line, line_at, nogood_at, by_line, effect_of, after_hints_of, is_dead_after}
+use Rattle.rf_log.specs.Walk.{knows_cond, fits_cond, fits}
 use Rattle.rf_domain.specs.Sets.{AreCounts}
 use Rattle.rf_propagate.specs.Laws.{AreInRange}
-use Rattle.rf_propagate.specs.Applied.{IsRangeIn, AreRolesIn, IsHintIn}
+use Rattle.rf_propagate.specs.Applied.{IsHintIn}
 use Rattle.rf_search.specs.declared.limits.TheConstants.{MAX_NUMBER}
-use Rattle.rf_search.specs.Out.{IsCondOf, IsHintOf, IsWritable}
+use Rattle.rf_search.specs.Out.{IsCondOf, IsHintOf}
 use Rattle.rf_search.specs.Paths.{IsLineOf}
 use Rattle.rf_search.specs.Replays.{IsReplayed}
 use Rattle.rf_search.specs.State.{Marked, start, decide, because, path_of, Agrees, AreDecided, IsRefuting}

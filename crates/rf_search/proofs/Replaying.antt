@@ -1,20 +1,20 @@
 -- Hints that are applied in order until a set is empty.
-use Rattle.std.proofs.Common.{◌≡◌, ℕ, zero, suc, ◌+◌, ◌-◌, ◌<◌, ◌≤◌, ◌==◌, List, [], ◌∷◌, ◌++◌, length, take, drop, get_or, Bool, true, false, not, ◌&&◌, ◌||◌, refl, sym, ◌∙◌, ap, subst, arith, inl, inr}
+use Rattle.std.proofs.Common.{◌≡◌, ℕ, zero, suc, ◌+◌, ◌<◌, ◌≤◌, ◌==◌, List, [], ◌∷◌, ◌++◌, length, take, get_or, Bool, true, false, not, ◌&&◌, ◌||◌, refl, sym, ◌∙◌, ap, subst, arith, inl, inr}
 use Rattle.std.specs.Prelude.{Option, Some, None, All, nat_lt, slice_index_or, if◌then◌else◌}
 use Rattle.std.specs.List.{list_all}
 use Rattle.std.proofs.lemmas.List.{take_more, take_all, length-map}
-use Rattle.std.proofs.lemmas.Bool.{cases_Bool, cases_lt, cases_eq, and_parts, and_from, not_from_false, true≢false}
+use Rattle.std.proofs.lemmas.Bool.{cases_Bool, cases_lt, cases_eq, not_from_false, true≢false}
 use Rattle.std.proofs.lemmas.Bool.Decides.{nat_tests}
 use Rattle.std.proofs.Math.Path.{fun_ext}
 use Rattle.rf_log.specs.declared.cond.Cond.{Cond}
 use Rattle.rf_log.specs.declared.hint.Hint.{Hint}
 use Rattle.rf_log.specs.Case.{Case, counts_of, count_of}
-use Rattle.rf_log.specs.Box.{Box, each_below, has_none, between, is_met, is_met_by, box_of, is_dead}
+use Rattle.rf_log.specs.Box.{Box, each_below, has_none, between, is_met_by, box_of, is_dead}
 use Rattle.rf_log.specs.Hints.{effect_of, after_hints_of, is_dead_after}
 use Rattle.rf_domain.specs.Indices.{outside}
 use Rattle.rf_domain.specs.Sets as sets
 use Rattle.rf_propagate.specs.Applied.{IsHintIn}
-use Rattle.rf_search.specs.Replays.{IsReplayed, IsNotReplayed, IsScratch}
+use Rattle.rf_search.specs.Replays.{IsReplayed, IsNotReplayed}
 use Rattle.rf_search.proofs.WholeTrail.{after_push}
 use Rattle.rf_search.proofs.Narrow.{Lives}
 use Rattle.rf_search.proofs.Sizes.{size_is}

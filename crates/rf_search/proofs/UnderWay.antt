@@ -1,37 +1,36 @@
 -- The turns of a search keep what it owes.
-use Rattle.std.proofs.Common.{◌≡◌, ℕ, ◌+◌, ◌*◌, ◌-◌, ◌<◌, ◌≤◌, List, [], ◌∷◌, ◌++◌, length, reverse, Bool, true, false, refl, sym, ◌∙◌, ap, subst, arith, inl, inr, slice_index}
-use Rattle.std.specs.Prelude.{Option, Some, None, Contains, IsTrue}
-use Rattle.std.specs.List.{count_by}
+use Rattle.std.proofs.Common.{◌≡◌, ℕ, ◌+◌, ◌*◌, ◌-◌, ◌<◌, ◌≤◌, List, [], ◌∷◌, ◌++◌, length, reverse, Bool, true, false, refl, sym, ◌∙◌, ap, subst, arith, slice_index}
+use Rattle.std.specs.Prelude.{Some, IsTrue}
 use Rattle.std.proofs.lemmas.Bool.Decides.{nat_tests}
 use Rattle.rf_terms.specs.declared.kind.Kind.{Kind}
 use Rattle.rf_log.specs.declared.cond.Cond.{Cond}
 use Rattle.rf_log.specs.declared.line.LogLine.{LogLine}
-use Rattle.rf_log.specs.declared.line.LogLine.TheVariants.{Nogood, Branch, Up}
+use Rattle.rf_log.specs.declared.line.LogLine.TheVariants.{Branch}
 use Rattle.rf_log.specs.declared.line.Cut.TheVariants.{Fix}
-use Rattle.rf_log.specs.Case.{Case, counts_of, count_of}
-use Rattle.rf_log.specs.Box.{Box, is_met, between}
+use Rattle.rf_log.specs.Case.{Case, counts_of}
+use Rattle.rf_log.specs.Box.{between}
 use Rattle.rf_log.specs.Hints.{Line, line_at, nogood_at}
 use Rattle.rf_log.specs.Relations.{members}
-use Rattle.rf_log.specs.Walk.{left_side, is_branch}
-use Rattle.rf_log.specs.Solved.{IsStarted, IsSolved, IsHonest, planned, spent}
+use Rattle.rf_log.specs.Walk.{left_side}
+use Rattle.rf_log.specs.Solved.{IsStarted, IsSolved, planned, spent}
 use Rattle.rf_log.proofs.Instances.{counts_length}
 use Rattle.rf_domain.specs.Sets as sets
 use Rattle.rf_trail.specs.declared.entry.Entry.{Entry}
 use Rattle.rf_trail.specs.Trace as trace
 use Rattle.rf_trail.specs.Trace.{Trace, has_of, decided}
 use Rattle.rf_trail.proofs.TraceLemmas.{has_size}
-use Rattle.rf_propagate.specs.Laws.{Extends, IsClosed, IsQuiet, IsOnPath, HasEveryKind, HasMore}
+use Rattle.rf_propagate.specs.Laws.{Extends, IsClosed, IsQuiet, IsOnPath, HasEveryKind}
 use Rattle.rf_search.specs.declared.choice.Choice.{Choice}
 use Rattle.rf_search.specs.declared.level.Level.{Level}
 use Rattle.rf_search.specs.declared.search.Search.{Search}
 use Rattle.rf_search.specs.declared.limits.TheConstants.{MAX_BUDGET, MAX_NUMBER}
-use Rattle.rf_search.specs.Out.{IsWritable, Leads, none, and_then}
+use Rattle.rf_search.specs.Out.{none, and_then}
 use Rattle.rf_search.specs.Choices.{IsChoice, HaveNoPair, AreSome}
-use Rattle.rf_search.specs.State.{Marked, start, decide, path_of, path_at, lefts, is_up, Agrees, IsSearching, IsMarked, IsUnderWay, IsWriting, IsClosing, IsStopped, IsFailed, effort}
+use Rattle.rf_search.specs.State.{Marked, start, decide, path_of, path_at, lefts, Agrees, IsSearching, IsMarked, IsUnderWay, IsWriting, IsStopped, IsFailed, effort}
 use Rattle.rf_search.specs.Turns.{IsWhole, IsAtRest, IsBranching, HasEnded}
 use Rattle.rf_search.proofs.Sizes.{size_is}
 use Rattle.rf_search.proofs.WritableLemmas.{index_short}
-use Rattle.rf_search.proofs.Steps.{marked-grown, marked-on, marked-more, lefts-cons, on_path, honest_from, IsOneMore, branch_more, branch_step, agrees-push, agrees-learn}
+use Rattle.rf_search.proofs.Steps.{marked-grown, marked-on, marked-more, lefts-cons, on_path, honest_from, branch_more, branch_step, agrees-push, agrees-learn}
 use Rattle.rf_search.proofs.Endings.{ends_in_plan, ends_spent}
 use Rattle.rf_search.proofs.Turning.{last_is}
 
@@ -84,8 +83,8 @@ at_rest case search t {ks} b every asked quiet closed = record {
 met_alone : (k : ℕ) → between k k k ≡ true
 met_alone k = grind (arith, nat_tests)
 
-unmet_above : (k j : ℕ) → k < j → between k k j ≡ false
-unmet_above k j above = grind (arith, nat_tests)
+unmet_apart : (k j : ℕ) → (k ≡ j → ⊥) → between k k j ≡ false
+unmet_apart k j apart = grind (arith, nat_tests)
 
 pub branching : {case : Case} {lines : List Line} {search : Search} {log : List LogLine} (choice : Choice) → IsUnderWay case lines 0 search log → IsAtRest case search
     → IsChoice (length search.trail.counts) (has_of search.trail.counts search.trail.entries) choice → IsBranching case search choice
@@ -99,7 +98,7 @@ branching {case} {lines} {search} choice u rest choice_ =
       low = subst (λ (n : ℕ). choice.at < n) (size_is case c) low;
       size = low;
       honest = honest_from case (path_at search) (has_of search.trail.counts es) (left_side Fix c choice.at) choice.at choice.other rest.closed choice_.one (met_alone choice.at)
-          choice_.two (unmet_above choice.at choice.other choice_.apart);
+          choice_.two (unmet_apart choice.at choice.other choice_.apart);
       writable = index_short case c choice.at u.small low;
     }
 

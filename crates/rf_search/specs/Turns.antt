@@ -1,5 +1,5 @@
 -- The turns of a search: a branching, a side that is closed, and an end.
-use Rattle.std.specs.Prelude.{◌≡◌, ℕ, ◌+◌, ◌<◌, ◌++◌, List, [], ◌∷◌, Bool, true, length, reverse, IsTrue}
+use Rattle.std.specs.Prelude.{ℕ, ◌<◌, List, Bool, true, length, IsTrue}
 use Rattle.rf_terms.specs.declared.kind.Kind.{Kind}
 use Rattle.rf_log.specs.declared.line.LogLine.{LogLine}
 use Rattle.rf_log.specs.declared.line.LogLine.TheVariants.{Branch}
@@ -8,10 +8,9 @@ use Rattle.rf_log.specs.Case.{Case, counts_of, count_of}
 use Rattle.rf_log.specs.Walk.{left_side}
 use Rattle.rf_log.specs.Solved.{Ending, IsSolved, IsHonest}
 use Rattle.rf_domain.specs.Sets.{size_of}
-use Rattle.rf_trail.specs.Trace.{box_of, decided}
+use Rattle.rf_trail.specs.Trace.{box_of}
 use Rattle.rf_propagate.specs.Laws.{IsQuiet, HasEveryKind, IsClosed}
 use Rattle.rf_search.specs.declared.choice.Choice.{Choice}
-use Rattle.rf_search.specs.declared.level.Level.{Level}
 use Rattle.rf_search.specs.declared.search.Search.{Search}
 use Rattle.rf_search.specs.Out.{Leads, IsWritable}
 use Rattle.rf_search.specs.State.{path_at}
