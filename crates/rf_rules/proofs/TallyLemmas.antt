@@ -39,6 +39,10 @@ both-more a b c xs ys p q = record {
 pub same-more : (a b : Tally) (xs ys : List Conflict) → xs ≡ ys → Extends a b xs → Extends a b ys
 same-more a b xs ys e p = let P : List Conflict → Type 0 = λ zs. Extends a b zs in subst P e p
 
+-- what is added to a tally that shows and counts the same conflicts
+pub from-same : (a b c : Tally) (xs : List Conflict) → b.shown.items ≡ a.shown.items → b.total ≡ a.total → Extends b c xs → Extends a c xs
+from-same a b c xs e f p = record { shown = p.shown ∙ ap (λ zs. shown_of (zs ++ xs)) e; total = omega (arith, p.total, f) }
+
 -- what is added to an empty report is the whole of it
 pub record IsWhole (r : Tally) (conflicts : List Conflict) : Type 0 where
   pub shown : r.shown.items ≡ shown_of conflicts

@@ -1,4 +1,4 @@
-ghost use Rattle.std.specs.Prelude.{◌≡◌, ◌<◌, ◌++◌, OnOk, IfOk, length};
+ghost use Rattle.std.specs.Prelude.{◌≡◌, ◌<◌, ◌≤◌, ◌++◌, OnOk, IfOk, length};
 ghost use Rattle.std.specs.List.{flat_map};
 ghost use Rattle.rf_terms.specs.Kinds.{kinds};
 ghost use Rattle.rf_rules.specs.Instances.{ats_of};
@@ -34,12 +34,26 @@ pub struct Analysis {
 pub fn analyse(alloc: Global, show: &Show) -> Result<Analysis, NoMemory>
     ensures { IfOk result (λ a. a ≡ analysed show.now) }
 {
+    let mut evaluated = 0;
+    analyse_counted(alloc, show, &mut evaluated)
+}
+
+/// Analyses a show afresh, and counts the products whose values are computed.
+pub fn analyse_counted(
+    alloc: Global,
+    show: &Show,
+    evaluated: &mut u64,
+) -> Result<Analysis, NoMemory>
+    ensures value { IfOk result (λ a. a ≡ analysed show.now) }
+    ensures rises { evaluated.old ≤ evaluated.new }
+{
     let ats = assigned(show);
     let ats = &ats[..show.carriers().len()];
     let mut tally = Tally::new(alloc);
     add_carriers(show, ats, &mut tally)?;
     let company = Company::of(alloc, show)?;
     add_broken(alloc, &company, ats, &mut tally)?;
+    *evaluated = evaluated.saturating_add(tally.evaluated);
     Ok(Analysis {
         shown: Items::from_vec(tally.shown),
         total: tally.total,

@@ -20,7 +20,7 @@ mod sources;
 mod tally;
 mod touched;
 
-pub use analysis::{Analysis, analyse};
+pub use analysis::{Analysis, analyse, analyse_counted};
 pub use conflict::Conflict;
 pub use plan::keeps;
 pub use product::{Product, Products};

@@ -13,7 +13,7 @@ ghost use Rattle.rf_rules.specs.Renewed.{Agrees, renewed_of};
 ghost use Rattle.rf_rules.specs.Tallies.{Extends};
 ghost use Rattle.rf_rules.specs.Touched as touched;
 
-use crate::analysis::{Analysis, add_carriers, analyse};
+use crate::analysis::{Analysis, add_carriers, analyse_counted};
 use crate::company::Company;
 use crate::conflict::Conflict;
 use crate::frequencies::assigned;
@@ -30,19 +30,22 @@ use std::alloc::Global;
 const WIDTH: usize = 128;
 
 /// The analysis of a show, from that of an earlier one that agrees with it on the carriers that are not in `changed`: what
-/// has none of these stays, and what has one is found anew. Where more was found than is shown, all is found anew.
+/// has none of these stays, and what has one is found anew. Where more was found than is shown, all is found anew. The products
+/// whose values are computed are counted.
 pub fn renew(
     alloc: Global,
     show: &Show,
     changed: Mask,
     before: &Analysis,
+    evaluated: &mut u64,
 ) -> Result<Analysis, NoMemory>
-    ensures { (old : ShowData) → before.now ≡ analysed old → Agrees changed old show.now → IfOk result (λ a. a ≡ analysed show.now) }
+    ensures value { (old : ShowData) → before.now ≡ analysed old → Agrees changed old show.now → IfOk result (λ a. a ≡ analysed show.now) }
+    ensures rises { evaluated.old ≤ evaluated.new }
 {
     if before.total > Tally::MAX_SHOWN as u64 {
-        return analyse(alloc, show);
+        return analyse_counted(alloc, show, evaluated);
     }
-    renew_from(alloc, show, changed, before.shown.as_slice())
+    renew_from(alloc, show, changed, before.shown.as_slice(), evaluated)
 }
 
 /// The same from all conflicts of the earlier show.
@@ -51,8 +54,10 @@ fn renew_from(
     show: &Show,
     changed: Mask,
     before: &[Conflict],
+    evaluated: &mut u64,
 ) -> Result<Analysis, NoMemory>
-    ensures { IfOk result (λ a. renewed.renewed changed before.now show.now ≡ analysis show.now → a ≡ analysed show.now) }
+    ensures value { IfOk result (λ a. renewed.renewed changed before.now show.now ≡ analysis show.now → a ≡ analysed show.now) }
+    ensures rises { evaluated.old ≤ evaluated.new }
 {
     let ats = assigned(show);
     let ats = &ats[..show.carriers().len()];
@@ -60,6 +65,7 @@ fn renew_from(
     add_carriers(show, ats, &mut tally)?;
     let company = Company::of(alloc, show)?;
     add_kinds(alloc, &company, ats, changed, before, &mut tally)?;
+    *evaluated = evaluated.saturating_add(tally.evaluated);
     Ok(Analysis {
         shown: Items::from_vec(tally.shown),
         total: tally.total,
@@ -101,6 +107,7 @@ fn add_renewed(
     let kept = kept_of(alloc, kind, mask, before)?;
     let mut found = Tally::new(alloc);
     add_touched(alloc, company, ats, kind, mask, &mut found)?;
+    tally.count_products(found.evaluated);
     add_merged(kind, kept.as_slice(), &found, tally)?;
     Ok(())
 }

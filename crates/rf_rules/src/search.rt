@@ -23,7 +23,7 @@ use crate::pairings::{Pairings, is_none};
 use crate::tally::Tally;
 use rf_base::{Khz, NoMemory};
 use rf_show::Show;
-use rf_terms::Kind;
+use rf_terms::{Kind, has_victim};
 use rf_zones::Mask;
 use rf_zones::mask::{all, has};
 
@@ -58,7 +58,7 @@ impl Search<'_> {
         ensures { OnOk result (Extends tally.old tally.new (found self.now (take depth roles) (roles_of self.now.kind - depth))) }
     {
         if depth + 1 == self.coefficients.len() {
-            return self.victims(company, roles, depth, product, tally);
+            return self.valued_victims(company, roles, depth, product, tally);
         }
         let near = self.near(pairings, &roles[..depth], product);
         if is_none(near) {
@@ -93,6 +93,28 @@ impl Search<'_> {
             return all();
         }
         pairings.near(product)
+    }
+
+    /// Adds the broken instances whose roles but for the last are taken by `roles[..depth]`, and counts the product of these.
+    pub fn valued_victims(
+        &self,
+        company: &Company,
+        roles: [usize; 4],
+        depth: usize,
+        product: i64,
+        tally: &mut Tally,
+    ) -> Result<(), NoMemory>
+        requires ready { IsReady self.now }
+        requires known { IsCompany company.now }
+        requires same { company.now.show.now ≡ self.now.show.now }
+        requires depth { depth + 1 ≡ roles_of self.now.kind }
+        requires product { product ≡ partial_of self.now (take depth roles) }
+        requires taken { AreCarriers self.now.ats.now (take depth roles) }
+        ensures { OnOk result (Extends tally.old tally.new (found self.now (take depth roles) 1)) }
+    {
+        tally.count_products(u64::from(has_victim(self.kind)));
+        self.victims(company, roles, depth, product, tally)?;
+        Ok(())
     }
 
     /// Adds the broken instances whose roles but for the last are taken by `roles[..depth]`.

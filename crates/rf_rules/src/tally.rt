@@ -4,11 +4,12 @@ use crate::conflict::Conflict;
 use rf_base::NoMemory;
 use std::alloc::Global;
 
-/// The front of a list of conflicts, and how many it has so far.
+/// The front of a list of conflicts, how many it has so far, and of how many products the values were computed to find them.
 #[derive(Drop)]
 pub struct Tally {
     pub shown: Vec<Conflict>,
     pub total: u64,
+    pub evaluated: u64,
     ghost within: { vec_len shown ≤ 10000 },
     ghost counted: { total < 2 ^ 64 },
 }
@@ -26,6 +27,7 @@ impl Tally {
         Tally {
             shown: Vec::new(alloc),
             total: 0,
+            evaluated: 0,
         }
     }
 
@@ -57,6 +59,15 @@ impl Tally {
         ensures total { self.new.total ≡ min (self.old.total + more) (2 ^ 64 - 1) }
     {
         self.total = self.total.saturating_add(more);
+    }
+
+    /// Counts products whose values are computed.
+    pub fn count_products(&mut self, more: u64)
+        ensures shown { self.new.shown.items ≡ self.old.shown.items }
+        ensures total { self.new.total ≡ self.old.total }
+        ensures evaluated { self.new.evaluated ≡ min (self.old.evaluated + more) (2 ^ 64 - 1) }
+    {
+        self.evaluated = self.evaluated.saturating_add(more);
     }
 
     fn show(shown: &mut Vec<Conflict>, conflict: Conflict) -> Result<(), NoMemory>

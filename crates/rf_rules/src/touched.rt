@@ -18,7 +18,7 @@ use crate::pairings::{Pairings, is_none};
 use crate::search::Search;
 use crate::tally::Tally;
 use rf_base::{Khz, NoMemory};
-use rf_terms::{Kind, coefficients};
+use rf_terms::{Kind, coefficients, has_victim};
 use rf_zones::Mask;
 use rf_zones::mask::{all, has};
 use std::alloc::Global;
@@ -86,7 +86,7 @@ impl Search<'_> {
         ensures { OnOk result (Extends tally.old tally.new (touched_in self.now touch.now.mask (take depth roles) (tuples (roles_of self.now.kind - depth) (upto (length self.now.ats.now))))) }
     {
         if depth + 1 == self.coefficients.len() {
-            return self.touched_victims(company, touch.mask, roles, depth, product, tally);
+            return self.valued_touched(company, touch.mask, roles, depth, product, tally);
         }
         let near = self.near_touched(touch, &roles[..depth], product);
         if is_none(near) {
@@ -124,6 +124,30 @@ impl Search<'_> {
             return touch.all.near(product);
         }
         touch.some.near(product)
+    }
+
+    /// Adds the broken instances that have a changed carrier and whose roles but for the last are taken by `roles[..depth]`,
+    /// and counts the product of these.
+    fn valued_touched(
+        &self,
+        company: &Company,
+        mask: Mask,
+        roles: [usize; 4],
+        depth: usize,
+        product: i64,
+        tally: &mut Tally,
+    ) -> Result<(), NoMemory>
+        requires ready { IsReady self.now }
+        requires known { IsCompany company.now }
+        requires same { company.now.show.now ≡ self.now.show.now }
+        requires depth { depth + 1 ≡ roles_of self.now.kind }
+        requires product { product ≡ partial_of self.now (take depth roles) }
+        requires taken { AreCarriers self.now.ats.now (take depth roles) }
+        ensures { OnOk result (Extends tally.old tally.new (touched_in self.now mask (take depth roles) (tuples 1 (upto (length self.now.ats.now))))) }
+    {
+        tally.count_products(u64::from(has_victim(self.kind)));
+        self.touched_victims(company, mask, roles, depth, product, tally)?;
+        Ok(())
     }
 
     /// Adds the broken instances that have a changed carrier and whose roles but for the last are taken by `roles[..depth]`.

@@ -4,7 +4,7 @@ use Rattle.rf_show.specs.Limits.{most_carriers}
 use Rattle.rf_rules.specs.Touched.{touched_of}
 use Rattle.rf_rules.specs.Tallies.{Extends}
 use Rattle.rf_rules.specs.declared.conflict.Conflict.{Conflict}
-use Rattle.rf_rules.proofs.TallyLemmas.{IsWhole, whole}
+use Rattle.rf_rules.proofs.TallyLemmas.{IsWhole, from-same, whole}
 use Rattle.rf_rules.specs.Merges.{merge}
 use Rattle.rf_rules.specs.Renewed.{precedes}
 use Rattle.rf_rules.proofs.CountLemmas.{shown-few, touched-few}
@@ -27,4 +27,5 @@ returns c =
     let f = found (goal.at.returns c).After-as_slice in
     let kept = c.as_slice.ensures.value ∙ c.in_ok-kept.ensures in
     let P : List Conflict → Type 0 = λ zs. Extends c.args.tally.now c.add_merged.new.tally (merge (precedes c.args.kind) zs (touched_of show c.args.ats.now c.args.kind c.args.mask)) in
-    rw (← c.requires.carriers) (subst P kept (c.in_ok-add_merged.ensures (touched_of show c.args.ats.now c.args.kind c.args.mask) f.shown f.total))
+    let merged = c.in_ok-add_merged.ensures (touched_of show c.args.ats.now c.args.kind c.args.mask) f.shown f.total in
+    rw (← c.requires.carriers) (subst P kept (from-same c.args.tally.now c.count_products.new.self c.add_merged.new.tally _ c.count_products.ensures.shown c.count_products.ensures.total merged))

@@ -11,12 +11,12 @@ where-ok : {A E : Type 0} (r : Result A E) (P Q : A → Type 0) → ((a : A) →
 where-ok (Ok a) P Q f h = f a h
 where-ok (Err e) P Q f h = tt
 
-pub returns : goal.returns
-returns c = λ old e agrees.
+pub returns-clause-value : goal.returns-clause-value
+returns-clause-value c = λ old e agrees.
     let show = c.args.show.now in
     let mask = c.args.changed in
     let shown = c.as_slice.result.now in
     let few : length (analysis old) ≤ 10000 = omega (arith, ap (λ (a : Analysis). a.total) e, c.if-before.false) in
     let all : shown ≡ analysis old = c.as_slice.ensures ∙ ap (λ (a : Analysis). a.shown) e ∙ shown-all (analysis old) few in
     let right : renewed mask shown show ≡ analysis show = ap (λ zs. renewed mask zs show) all ∙ analysis-renewed mask old show agrees in
-    where-ok c.renew_from.result _ _ (λ a h. h right) c.renew_from.ensures
+    where-ok c.renew_from.result _ _ (λ a h. h right) c.renew_from.ensures.value

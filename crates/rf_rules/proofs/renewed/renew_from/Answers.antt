@@ -8,8 +8,8 @@ use Rattle.rf_rules.proofs.AnalysisLemmas.{analysis-few, analysed-is}
 use Rattle.rf_rules.specs.Renewed.{renewed_of}
 use Rattle.rf_rules.proofs.renewed.renew_from.Goals as goal
 
-pub returns : goal.returns
-returns c = λ right.
+pub returns-clause-value : goal.returns-clause-value
+returns-clause-value c = λ right.
     let show = c.args.show.now in
     let mask = c.args.changed in
     let before = c.args.before.now in

@@ -6,10 +6,10 @@ use Rattle.rf_rules.specs.Analyses.{analysis, banned_carriers, conflicts_of, off
 use Rattle.rf_rules.specs.Tallies.{Extends}
 use Rattle.rf_rules.proofs.TallyLemmas.{both-more, same-more, whole, IsWhole}
 use Rattle.rf_rules.proofs.AnalysisLemmas.{analysis-few, analysed-is}
-use Rattle.rf_rules.proofs.analysis.analyse.Goals as goal
+use Rattle.rf_rules.proofs.analysis.analyse_counted.Goals as goal
 
-pub returns : goal.returns
-returns c =
+pub returns-clause-value : goal.returns-clause-value
+returns-clause-value c =
     let show = c.args.show.now in
     let e : take (length c.carriers.result.now) c.assigned-ats.result ≡ ats_of show = rw c.carriers.ensures.value c.assigned-ats.ensures in
     let tail : Extends c.add_carriers.new.tally c.add_broken.new.tally (flat_map (conflicts_of show (ats_of show)) kinds) = rw (c.in_ok-company.ensures.same, e) at c.in_ok-add_broken.ensures in
