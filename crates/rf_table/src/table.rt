@@ -1,4 +1,4 @@
-ghost use Rattle.std.specs.Prelude.{◌≡◌, IfOk, OnErr, OnOk};
+ghost use Rattle.std.specs.Prelude.{◌≡◌, ◌≤◌, IfOk, OnErr, OnOk};
 ghost use Rattle.rf_show.specs.Show.{ShowData};
 ghost use Rattle.rf_rules.specs.Analyses.{analysed};
 ghost use Rattle.rf_rules.specs.Products.{listed};
@@ -7,7 +7,7 @@ ghost use Rattle.rf_table.specs.Tables.{StandsFor};
 use crate::changed::changed;
 use crate::zones::same_zones;
 use rf_base::{Khz, NoMemory};
-use rf_rules::{Analysis, Products, analyse, products, renew};
+use rf_rules::{Analysis, Products, analyse_counted, products, renew};
 use rf_show::Show;
 use std::alloc::Global;
 use std::marker::Model;
@@ -18,6 +18,7 @@ pub struct Table {
     alloc: Global,
     kept: Show,
     analysis: Analysis,
+    evaluated: u64,
 }
 
 impl Model for Table {
@@ -27,7 +28,7 @@ impl Model for Table {
 
     ghost Value = { TableData };
 
-    ghost view = { λ t. record { kept = t.kept; analysis = t.analysis } };
+    ghost view = { λ t. record { kept = t.kept; analysis = t.analysis; evaluated = t.evaluated } };
 
     ghost invariant = { λ t. t.analysis ≡ analysed t.kept };
 }
@@ -37,10 +38,12 @@ impl Table {
     pub fn of(alloc: Global, show: &Show) -> Result<Table, NoMemory>
         ensures { IfOk result (λ table. StandsFor table show.now) }
     {
+        let mut evaluated = 0;
         Ok(Table {
             alloc,
             kept: show.copy(alloc)?,
-            analysis: analyse(alloc, show)?,
+            analysis: analyse_counted(alloc, show, &mut evaluated)?,
+            evaluated,
         })
     }
 
@@ -48,12 +51,15 @@ impl Table {
     /// want of memory nothing has changed.
     pub fn change(&mut self, show: &Show) -> Result<(), NoMemory>
         ensures stands { OnOk result (StandsFor self.new show.now) }
+        ensures rises { self.old.evaluated ≤ self.new.evaluated }
         ensures unchanged { OnErr result (self.new ≡ self.old) }
     {
+        let mut evaluated = self.evaluated;
         let kept = show.copy(self.alloc)?;
-        let analysis = next(self.alloc, &self.kept, &self.analysis, show)?;
+        let analysis = next(self.alloc, &self.kept, &self.analysis, show, &mut evaluated)?;
         self.kept = kept;
         self.analysis = analysis;
+        self.evaluated = evaluated;
         Ok(())
     }
 
@@ -71,15 +77,30 @@ impl Table {
     {
         products(self.alloc, &self.kept, lo, hi)
     }
+
+    /// For how many products the values were computed so far to keep the analysis up. One that has carriers for sources which
+    /// stay as they were is among them only where a carrier that changed may be its victim.
+    pub fn evaluated(&self) -> u64
+        ensures { result ≡ self.now.evaluated }
+    {
+        self.evaluated
+    }
 }
 
-/// The analysis of a show, from that of an earlier one.
-fn next(alloc: Global, old: &Show, before: &Analysis, new: &Show) -> Result<Analysis, NoMemory>
+/// The analysis of a show, from that of an earlier one. The products whose values are computed are counted.
+fn next(
+    alloc: Global,
+    old: &Show,
+    before: &Analysis,
+    new: &Show,
+    evaluated: &mut u64,
+) -> Result<Analysis, NoMemory>
     requires { before.now ≡ analysed old.now }
-    ensures { IfOk result (λ analysis. analysis ≡ analysed new.now) }
+    ensures value { IfOk result (λ analysis. analysis ≡ analysed new.now) }
+    ensures rises { evaluated.old ≤ evaluated.new }
 {
     if !same_zones(old.zones(), new.zones()) {
-        return analyse(alloc, new);
+        return analyse_counted(alloc, new, evaluated);
     }
-    renew(alloc, new, changed(old, new), before)
+    renew(alloc, new, changed(old, new), before, evaluated)
 }
