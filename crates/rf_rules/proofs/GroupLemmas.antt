@@ -60,10 +60,10 @@ filter-map r q f (x ∷ xs) = filter-map-at r q f x xs (q x) (r (f x)) refl refl
 abbrev pub groups : {X : Type 0} → (ℕ → X → Bool) → ℕ → ℕ → List X → List X
 groups at lo k xs = flat_map (λ v. filter (at v) xs) (map (λ i. lo + i) (upto k))
 
-groups-zero : {X : Type 0} (at : ℕ → X → Bool) (lo : ℕ) (xs : List X) → groups at lo 0 xs ≡ []
+pub groups-zero : {X : Type 0} (at : ℕ → X → Bool) (lo : ℕ) (xs : List X) → groups at lo 0 xs ≡ []
 groups-zero at lo xs = ap (λ is. flat_map (λ v. filter (at v) xs) (map (λ i. lo + i) is)) upto-zero
 
-groups-suc : {X : Type 0} (at : ℕ → X → Bool) (lo k : ℕ) (xs : List X) → groups at lo (suc k) xs ≡ groups at lo k xs ++ filter (at (lo + k)) xs
+pub groups-suc : {X : Type 0} (at : ℕ → X → Bool) (lo k : ℕ) (xs : List X) → groups at lo (suc k) xs ≡ groups at lo k xs ++ filter (at (lo + k)) xs
 groups-suc at lo k xs =
     ap (λ j. groups at lo j xs) (sym (add-one k)) ∙ ap (flat_map (λ v. filter (at v) xs)) (map-upto (λ i. lo + i) k) ∙ flat_map-append (λ v. filter (at v) xs) (map (λ i. lo + i) (upto k)) ((lo + k) ∷ []) ∙ ap (λ zs. groups at lo k xs ++ zs) (append-nil (filter (at (lo + k)) xs))
 

@@ -8,6 +8,7 @@ pub mod AnalysisLemmas
 pub mod GroupLemmas
 pub mod ProductLemmas
 pub mod SizeLemmas
+pub mod FrontLemmas
 pub mod CompanyLemmas
 pub mod PairLemmas
 pub mod PlanLemmas

@@ -7,14 +7,19 @@ use Rattle.rf_terms.specs.declared.kind.Kind.{Kind}
 use Rattle.rf_terms.specs.declared.kind.Kind.TheVariants.{Spacing}
 use Rattle.rf_show.specs.Show.{ShowData}
 use Rattle.rf_rules.specs.Tuples.{tuples, upto}
-use Rattle.rf_rules.specs.Instances.{is_candidate, ordered_roles}
+use Rattle.rf_rules.specs.Instances.{is_candidate, is_open, ordered_roles}
 use Rattle.rf_rules.specs.Conflicts.{product_of}
 use Rattle.rf_rules.specs.Products.{is_between, is_noted, noted_in, product_at}
 use Rattle.rf_rules.specs.declared.product.Product.{Product}
 use Rattle.rf_rules.specs.declared.search.Search.{Search}
+use Rattle.rf_rules.proofs.HopelessLemmas.{closed}
 use Rattle.rf_rules.proofs.TupleLemmas.{begun, found-at_none, found-end, found-more, found-none, found-one, found-start, tuples-zero}
 
 -- the roles that stand in an order are sources, where there is a victim
+pub ordered-few : (kind : Kind) → ordered_roles kind ≤ roles_of kind
+ordered-few Spacing = omega arith
+ordered-few _ = omega arith
+
 pub ordered-sources : (kind : Kind) → 2 < roles_of kind → ordered_roles kind + 1 ≤ roles_of kind
 ordered-sources Spacing h = absurd (omega (arith, h))
 ordered-sources _ h = omega arith
@@ -34,6 +39,12 @@ noted-no_candidate show ats kind lo hi t h = rw h (and-false (is_between lo hi (
 pub noted-both : (show : ShowData) (ats : List (Option ℕ)) (kind : Kind) (lo hi : ℕ) (t : List ℕ) → is_between lo hi (product_of ats kind t) ≡ true → is_candidate show ats kind t ≡ true → is_noted show ats kind lo hi t ≡ true
 unfolding is_noted
 noted-both show ats kind lo hi t h p = rw (h, p) refl
+
+-- sources of which one has no frequency, or stands twice
+pub noted-closed : (s : Search) (lo hi : ℕ) (t : List ℕ) (k : ℕ) (xs : List Product) → is_open s.ats.now t ≡ false → xs ≡ xs ++ noted_in s lo hi t (tuples k (upto (length s.ats.now)))
+noted-closed s lo hi t k xs h =
+    let none = found-none (product_at s.ats.now s.kind) (is_noted s.show.now s.ats.now s.kind lo hi) t (tuples k (upto (length s.ats.now))) (λ u. noted-no_candidate s.show.now s.ats.now s.kind lo hi (t ++ u) (closed s.show.now s.ats.now s.kind t u h)) in
+    sym (ap (λ zs. xs ++ zs) none ∙ append-nil xs)
 
 -- sources that are not noted
 pub note-none : (s : Search) (lo hi : ℕ) (t : List ℕ) (xs : List Product) → is_noted s.show.now s.ats.now s.kind lo hi t ≡ false → xs ≡ xs ++ noted_in s lo hi t ([] ∷ [])

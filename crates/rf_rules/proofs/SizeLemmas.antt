@@ -15,7 +15,7 @@ use Rattle.rf_rules.specs.Tuples.{found_in, tuples, upto}
 use Rattle.rf_rules.specs.Instances.{ats_of, is_candidate}
 use Rattle.rf_rules.specs.Tallies.{shown_of}
 use Rattle.rf_rules.specs.declared.product.Products.{Products}
-use Rattle.rf_rules.specs.Products.{all_products, has_size, has_value, is_between, is_noted, is_value, listed, noted_of, product_at, products, products_of, size_of}
+use Rattle.rf_rules.specs.Products.{all_products, has_size, has_value, is_between, is_noted, is_value, lies, listed, noted_of, product_at, products, products_of, size_of, values}
 use Rattle.rf_rules.specs.declared.product.Product.{Product}
 use Rattle.rf_rules.proofs.TupleLemmas.{found-all}
 use Rattle.rf_rules.proofs.GroupLemmas.{all-filter, filter-flat_map, filter-map, filter-same, filter-twice, groups, groups-rising, groups-same}
@@ -58,17 +58,13 @@ flat_map-filter : {X Y : Type 0} (p : X → Bool) (f : X → List Y) (xs : List 
 flat_map-filter p f [] = refl
 flat_map-filter p f (x ∷ xs) = flat_map-filter-at p f x xs (p x) refl (flat_map-filter p f xs)
 
--- a product's value lies from lo to hi
-abbrev lies : ℕ → ℕ → Product → Bool
-lies lo hi p = is_between lo hi p.value
-
 noted-kind : (show : ShowData) (ats : List (Option ℕ)) (lo hi : ℕ) (kind : Kind) → found_in (product_at ats kind) (is_noted show ats kind lo hi) [] (tuples (roles_of kind - 1) (upto (length ats))) ≡ filter (lies lo hi) (products_of show ats kind)
 unfolding is_noted
 noted-kind show ats lo hi kind =
     let all = tuples (roles_of kind - 1) (upto (length ats)) in
     found-all (product_at ats kind) (λ t. lies lo hi (product_at ats kind t) && is_candidate show ats kind t) all ∙ filter-map (lies lo hi) (is_candidate show ats kind) (product_at ats kind) all
 
-noted-all : (show : ShowData) (lo hi : ℕ) → flat_map (noted_of show (ats_of show) lo hi) kinds ≡ filter (lies lo hi) (all_products show)
+pub noted-all : (show : ShowData) (lo hi : ℕ) → flat_map (noted_of show (ats_of show) lo hi) kinds ≡ filter (lies lo hi) (all_products show)
 noted-all show lo hi =
     let ats = ats_of show in
     let found : Kind → List Product = λ kind. found_in (product_at ats kind) (is_noted show ats kind lo hi) [] (tuples (roles_of kind - 1) (upto (length ats))) in
@@ -99,12 +95,10 @@ between-size lo hi (pos n) h =
     (low, omega (arith, low, high))
 between-size lo hi (negsuc n) h = absurd (false≢true h)
 
--- what is found, sorted by size and with the order kept among those of one size, is what the definition lists
-pub sorted-products : (show : ShowData) (lo hi : ℕ) (xs ys : List Product) → xs ≡ flat_map (noted_of show (ats_of show) lo hi) kinds → IsNonDecreasingBy size_of ys → ((v : ℕ) → filter (has_size v) ys ≡ filter (has_size v) xs) → IsPermutation xs ys → ys ≡ products show lo hi
-sorted-products show lo hi xs ys e up stable same =
-    let all = all_products show in
+-- what lies from lo to hi, sorted by size and with the order kept among those of one size, is listed by values
+pub sorted-values : (lo hi : ℕ) (all xs ys : List Product) → xs ≡ filter (lies lo hi) all → IsNonDecreasingBy size_of ys → ((v : ℕ) → filter (has_size v) ys ≡ filter (has_size v) xs) → IsPermutation xs ys → ys ≡ values lo hi all
+sorted-values lo hi all xs ys found up stable same =
     let k = hi + 1 - lo in
-    let found : xs ≡ filter (lies lo hi) all = e ∙ noted-all show lo hi in
     let inside : All (λ (p : Product). (lo ≤ size_of p) × (size_of p < lo + k)) xs = rw found (λ i d q. between-size lo hi (get_or (filter (lies lo hi) all) i d).value (all-filter (λ (p : Product). Unit {0}) (lies lo hi) all (λ _ _ _. tt) i d q).1) in
     let groups-of : groups has_size lo k ys ≡ ys = groups-rising size_of lo k ys up (All-permutation (λ (p : Product). (lo ≤ size_of p) × (size_of p < lo + k)) xs ys same inside) in
     let each : (i : ℕ) → i < k → filter (has_size (lo + i)) ys ≡ filter (has_value (lo + i)) all = λ i p.

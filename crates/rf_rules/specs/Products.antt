@@ -38,9 +38,13 @@ has_value v p = is_value v p.value
 abbrev pub between : ℕ → ℕ → List ℕ
 between lo hi = map (λ i. lo + i) (upto (hi + 1 - lo))
 
+-- the values from lo to hi of some products: for each
+abbrev pub values : ℕ → ℕ → List Product → List Product
+values lo hi all = flat_map (λ v. filter (has_value v) all) (between lo hi)
+
 -- the products from lo to hi: for each value, those that have it, by kind and then by sources
 abbrev pub products : ShowData → ℕ → ℕ → List Product
-products show lo hi = flat_map (λ v. filter (has_value v) (all_products show)) (between lo hi)
+products show lo hi = values lo hi (all_products show)
 
 -- what is shown of them
 abbrev pub listed : ShowData → ℕ → ℕ → Products
@@ -52,11 +56,19 @@ abbrev pub is_between : ℕ → ℕ → ℤ → Bool
 is_between lo hi (pos n) = nat_le lo n && nat_le n hi
 is_between lo hi (negsuc n) = false
 
+-- a product's value lies from lo to hi
+abbrev pub lies : ℕ → ℕ → Product → Bool
+lies lo hi p = is_between lo hi p.value
+
 abbrev pub size_of : Product → ℕ
 size_of p = unsigned_abs p.value
 
 abbrev pub has_size : ℕ → Product → Bool
 has_size v p = size_of p == v
+
+-- a product is no larger than this
+abbrev pub is_upto : ℕ → Product → Bool
+is_upto end p = nat_le (size_of p) end
 
 -- sources whose product lies from lo to hi
 unfoldable pub is_noted : ShowData → List (Option ℕ) → Kind → ℕ → ℕ → List ℕ → Bool

@@ -2,7 +2,7 @@ ghost use Rattle.std.specs.Prelude.{◌≡◌, ◌<◌, ◌≤◌, ◌∷◌, �
 ghost use Rattle.std.specs.List.{list_all, list_any};
 ghost use Rattle.rf_zones.specs.Masks.{has_bit, has_bits};
 ghost use Rattle.rf_show.specs.Limits.{most_carriers};
-ghost use Rattle.rf_show.specs.Query.{all_meet, are_joined, meet_at};
+ghost use Rattle.rf_show.specs.Query.{are_joined, meet_at};
 ghost use Rattle.rf_rules.specs.Companies.{IsCompany, Meets, masks_of};
 
 use rf_base::NoMemory;
@@ -41,17 +41,6 @@ impl<'a> Company<'a> {
         })
     }
 
-    /// These carriers can stand in a set of so many that is together: some minute of the week has all of them on, and each
-    /// two of them may be together in it.
-    #[tactic(auto, unfolding(rf_show::specs::Query::are_joined))]
-    pub fn together(&self, size: usize, t: &[usize]) -> bool
-        requires known { IsCompany self.now }
-        requires taken { All (λ c. c < length self.now.show.now.carriers) t.now }
-        ensures { result ≡ are_joined self.now.show.now size t.now }
-    {
-        self.all_meet(size, t) && self.share_minute(t)
-    }
-
     /// The carriers of which each can stand with all of these in a set of so many that is together.
     pub fn mates(&self, size: usize, t: &[usize]) -> Mask
         requires known { IsCompany self.now }
@@ -74,32 +63,6 @@ impl<'a> Company<'a> {
             return &self.reach;
         }
         &self.heard
-    }
-
-    // Each two of these carriers may be together in a set of so many.
-    fn all_meet(&self, size: usize, t: &[usize]) -> bool
-        requires known { IsCompany self.now }
-        requires taken { All (λ c. c < length self.now.show.now.carriers) t.now }
-        ensures { result ≡ all_meet size self.now.show.now.zones self.now.show.now.carriers t.now }
-    {
-        t.iter().all(|a| self.meets_all(size, *a, t))
-    }
-
-    fn meets_all(&self, size: usize, a: usize, t: &[usize]) -> bool
-        requires known { IsCompany self.now }
-        requires there { a < length self.now.show.now.carriers }
-        requires taken { All (λ c. c < length self.now.show.now.carriers) t.now }
-        ensures { result ≡ list_all (λ b. meet_at size self.now.show.now.zones self.now.show.now.carriers a b) t.now }
-    {
-        has_all(self.masks(size)[a], t)
-    }
-
-    // All of these carriers are on in one minute.
-    fn share_minute(&self, t: &[usize]) -> bool
-        requires { All (λ c. c < most_carriers) t.now }
-        ensures { result ≡ list_any (has_bits t.now) self.now.slices }
-    {
-        self.slices.masks().iter().any(|mask| has_all(*mask, t))
     }
 
     // The carriers that each of these may be together with in a set of so many.

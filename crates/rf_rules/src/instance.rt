@@ -1,21 +1,8 @@
-ghost use Rattle.std.specs.Prelude.{◌≡◌, ◌∷◌, ◌++◌, ◌+◌, [], List, ℕ, All, ◌<◌, ◌≤◌, false, length, slice_index_or};
+ghost use Rattle.std.specs.Prelude.{◌≡◌, ◌∷◌, ◌++◌, ◌+◌, [], List, ℕ, ◌≤◌, false, length, slice_index_or};
 ghost use Rattle.std.specs.Bool.{OnTrue};
 ghost use Rattle.rf_rules.specs.Instances as instances;
-ghost use Rattle.rf_rules.specs.Companies.{IsCompany};
 
-use crate::company::Company;
-use rf_terms::{Kind, order, roles};
-
-/// The carriers are distinct, stand in the order of the kind's roles, and are together.
-#[tactic(auto, unfolding(crate::specs::Instances::is_instance))]
-pub fn is_instance(company: &Company, kind: Kind, t: &[usize]) -> bool
-    requires known { IsCompany company.now }
-    requires roles { instances.ordered_roles kind ≤ length t.now }
-    requires taken { All (λ c. c < length company.now.show.now.carriers) t.now }
-    ensures { result ≡ instances.is_instance company.now.show.now kind t.now }
-{
-    is_distinct(t) && is_in_order(kind, t) && company.together(roles(kind), t)
-}
+use rf_terms::{Kind, order};
 
 /// No carrier stands twice.
 pub fn is_distinct(t: &[usize]) -> bool

@@ -7,6 +7,7 @@ mod breaks;
 mod company;
 mod conflict;
 mod frequencies;
+mod front;
 mod instance;
 mod lane;
 mod merged;

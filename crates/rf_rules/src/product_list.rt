@@ -7,8 +7,9 @@ ghost use Rattle.rf_rules.specs.Products.{listed, noted_of};
 
 use crate::company::Company;
 use crate::frequencies::assigned;
+use crate::front::front;
 use crate::lane::make_lanes;
-use crate::product::{Product, Products, sort_by_size};
+use crate::product::{Product, Products};
 use crate::search::Search;
 use crate::tally::Tally;
 use rf_base::{Items, Khz, NoMemory};
@@ -26,12 +27,11 @@ pub fn products(alloc: Global, show: &Show, lo: Khz, hi: Khz) -> Result<Products
     let company = Company::of(alloc, show)?;
     let mut found = Vec::new(alloc);
     add_products(&company, ats, lo, hi, &mut found)?;
-    sort_by_size(&mut found)?;
-    let total = found.len() as u64;
-    found.truncate(Tally::MAX_SHOWN);
+    let mut shown = front(alloc, lo, hi, &found)?;
+    shown.truncate(Tally::MAX_SHOWN);
     Ok(Products {
-        shown: Items::from_vec(found),
-        total,
+        shown: Items::from_vec(shown),
+        total: found.len() as u64,
     })
 }
 

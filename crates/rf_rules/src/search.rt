@@ -17,7 +17,7 @@ use crate::arithmetic::{sum, term};
 use crate::company::Company;
 use crate::conflict::Conflict;
 use crate::frequencies::{at, khz_of};
-use crate::instance::{ends_in_order, is_distinct, is_instance, is_out_of_order};
+use crate::instance::{ends_in_order, is_distinct, is_out_of_order};
 use crate::lane::Lane;
 use crate::pairings::{Pairings, is_none};
 use crate::tally::Tally;
@@ -184,8 +184,8 @@ impl Search<'_> {
     }
 
     /// An instance of assigned carriers, as soon as those of the first roles are assigned and distinct.
-    fn joins(&self, t: &[usize], last: usize, mates: Mask) -> bool
-        requires roles { length t.now + 1 ≡ roles_of self.now.kind }
+    pub fn joins(&self, t: &[usize], last: usize, mates: Mask) -> bool
+        requires roles { ordered_roles self.now.kind ≤ length t.now + 1 }
         requires carriers { length self.now.ats.now ≤ most_carriers }
         requires there { last < length self.now.ats.now }
         requires opened { is_open self.now.ats.now t.now ≡ true }
@@ -302,19 +302,6 @@ impl Search<'_> {
             return true;
         }
         is_out_of_order(self.kind, t, carrier)
-    }
-
-    /// An instance of assigned carriers.
-    #[tactic(auto, unfolding(crate::specs::Instances::is_candidate))]
-    pub fn is_candidate(&self, company: &Company, t: &[usize]) -> bool
-        requires ready { IsReady self.now }
-        requires known { IsCompany company.now }
-        requires same { company.now.show.now ≡ self.now.show.now }
-        requires roles { ordered_roles self.now.kind ≤ length t.now }
-        requires taken { AreCarriers self.now.ats.now t.now }
-        ensures { result ≡ is_candidate self.now.show.now self.now.ats.now self.now.kind t.now }
-    {
-        are_assigned(self.ats, t) && is_instance(company, self.kind, t)
     }
 
     /// The carriers are assigned and distinct.

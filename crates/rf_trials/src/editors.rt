@@ -14,12 +14,13 @@ use std::test::Fail;
 
 /// Numbers drawn one after another.
 #[derive(Drop)]
-struct Draws {
-    state: u64,
+pub(crate) struct Draws {
+    pub(crate) state: u64,
 }
 
 impl Draws {
-    fn below(&mut self, count: u64) -> u64
+    /// The next number, below `count`.
+    pub(crate) fn below(&mut self, count: u64) -> u64
         requires { 0 < count }
         ensures { result < count }
     {

@@ -39,6 +39,8 @@ mod searches;
 #[cfg(test)]
 mod shows;
 #[cfg(test)]
+mod tables;
+#[cfg(test)]
 mod terms;
 #[cfg(test)]
 mod trails;

@@ -7,7 +7,7 @@ use Rattle.rf_rules.specs.Instances.{AreCarriers}
 use Rattle.rf_rules.specs.Products.{noted_in}
 use Rattle.rf_terms.proofs.KindLaws.{four_roles}
 use Rattle.rf_rules.proofs.SearchLemmas.{AreCarriers-push}
-use Rattle.rf_rules.proofs.ProductLemmas.{noted-no_candidate, sources-end, sources-last, sources-more, sources-skip, sources-start}
+use Rattle.rf_rules.proofs.ProductLemmas.{noted-no_candidate, sources-end, sources-more, sources-skip, sources-start}
 use Rattle.rf_rules.proofs.search.Search.+sources.Goals as goal
 use Rattle.rf_rules.proofs.search.Search.+sources.Goals.{After-with-next}
 
@@ -15,7 +15,8 @@ pub returns-then-depth-self : goal.returns-then-depth-self
 returns-then-depth-self t c =
     let s = c.args.self.now in
     let same : length s.coefficients.now ≡ roles_of s.kind = ap length c.requires.ready.coefficients in
-    rw (← sources-last s c.args.lo c.args.hi (take c.args.depth c.args.roles) (roles_of s.kind - 1 - c.args.depth) (omega (arith, same, c.if-depth-self.true))) c.note.ensures
+    let one : roles_of s.kind - 1 - c.args.depth ≡ 1 = omega (arith, same, c.if-depth-self.true) in
+    rw one c.last_sources.ensures
 
 pub loop-carrier-init : goal.loop-carrier-init
 loop-carrier-init t c = sources-start c.args.self.now c.args.lo c.args.hi (take c.args.depth c.args.roles) (roles_of c.args.self.now.kind - 1 - c.args.depth - 1) (length c.args.self.now.ats.now) c.args.found.now.items
@@ -36,7 +37,7 @@ sources-requires t c =
     let push : AreCarriers s.ats.now (take c.args.depth c.args.roles ++ c.loop-carrier.carrier ∷ []) = AreCarriers-push s.ats.now (take c.args.depth c.args.roles) c.loop-carrier.carrier c.requires.taken c.loop-carrier-test.true in
     let next : to_z w64 (of_z w64 c.with-next.result) ≡ c.with-next.result = to_z-of_z w64 c.with-next.result (record { sfits = c.with-next.type_inv }) in
     let same : length s.coefficients.now ≡ roles_of s.kind = ap length c.requires.ready.coefficients in
-    let deep : c.args.depth + 1 < roles_of s.kind = omega (arith, same, c.if-depth-self.false, c.requires.depth) in
+    let deep : c.args.depth + 1 + 1 < roles_of s.kind = omega (arith, same, c.if-depth-self.false, c.requires.depth) in
     (omega (arith, deep, c.decreases), (c.requires.ready, (c.requires.known, (c.requires.same, (c.requires.victim, (deep, (rw (more t m) (next ∙ c.with-next.ensures), rw (more t m) push)))))))
 
 pub loop-carrier-preserved : goal.loop-carrier-preserved

@@ -5,8 +5,12 @@ use Rattle.rf_rules.specs.Conflicts.{conflict_of, product_of, sources_of}
 use Rattle.rf_rules.proofs.TallyLemmas.{none-more}
 use Rattle.rf_rules.proofs.TupleLemmas.{found-one, found-at_none}
 use Rattle.rf_rules.proofs.SearchLemmas.{broken-near, conflict-is, sources-push}
+use Rattle.rf_rules.proofs.ProductLemmas.{ordered-few}
 use Rattle.rf_rules.proofs.search.Search.judge.Goals as goal
 use Rattle.rf_rules.proofs.search.Search.judge.Goals.{After-joins}
+
+pub joins-requires-clause-roles : goal.joins-requires-clause-roles
+joins-requires-clause-roles c = omega (arith, c.requires.roles, ordered-few c.args.self.now.kind)
 
 near : (c : After-joins) → is_broken c.args.self.now.show.now c.args.self.now.ats.now c.args.self.now.kind (c.args.t.now ++ c.args.last ∷ []) ≡ c.joins.result
 near c =

@@ -1,31 +1,40 @@
-use Rattle.std.proofs.Common.{◌≡◌, ap, sym, ◌∙◌, to_z, of_z, w64}
+use Rattle.std.proofs.Common.{◌≡◌, ◌∷◌, ◌++◌, [], length, ◌+◌, take, set, ap, sym, ◌∙◌, arith, to_z, of_z, w64}
 use Rattle.std.proofs.lemmas.Int.{to_z-of_z}
+use Rattle.std.proofs.lemmas.List.{length-take-le, take_more_set}
+use Rattle.rf_terms.proofs.KindLaws.{four_roles}
 use Rattle.rf_rules.specs.Conflicts.{product_of}
 use Rattle.rf_rules.specs.Products.{is_between}
-use Rattle.rf_rules.proofs.ProductLemmas.{note-none, note-one, noted-both, noted-no_candidate, noted-outside, product-is}
+use Rattle.rf_rules.proofs.ProductLemmas.{note-none, note-one, noted-both, noted-no_candidate, noted-outside, ordered-sources, product-is}
 use Rattle.rf_rules.proofs.search.Search.note.Goals as goal
-use Rattle.rf_rules.proofs.search.Search.note.Goals.{After-is_between}
+use Rattle.rf_rules.proofs.search.Search.note.Goals.{After-with-value, After-is_between}
 
-value : (c : After-is_between) → to_z w64 (of_z w64 c.args.product) ≡ product_of c.args.self.now.ats.now c.args.self.now.kind c.args.t.now
-value c = to_z-of_z w64 c.args.product c.ranges.product ∙ c.requires.product
+pub joins-requires-clause-roles : goal.joins-requires-clause-roles
+joins-requires-clause-roles c =
+    let four : length c.args.roles ≡ 4 = omega arith in
+    omega (arith, length-take-le c.args.depth c.args.roles (omega (arith, four, four_roles c.args.self.now.kind, c.requires.depth)), ordered-sources c.args.self.now.kind c.requires.victim, c.requires.depth)
 
-between : (c : After-is_between) → is_between c.args.lo c.args.hi (product_of c.args.self.now.ats.now c.args.self.now.kind c.args.t.now) ≡ c.is_between.result
+value : (c : After-is_between) → to_z w64 (of_z w64 c.with-value.result) ≡ product_of c.args.self.now.ats.now c.args.self.now.kind (take c.args.depth c.args.roles ++ c.args.last ∷ [])
+value c = to_z-of_z w64 c.with-value.result (record { sfits = c.with-value.type_inv }) ∙ c.with-value.ensures
+
+between : (c : After-is_between) → is_between c.args.lo c.args.hi (product_of c.args.self.now.ats.now c.args.self.now.kind (take c.args.depth c.args.roles ++ c.args.last ∷ [])) ≡ c.is_between.result
 between c = ap (is_between c.args.lo c.args.hi) (sym (value c)) ∙ sym c.is_between.ensures
+
+pub returns-then-not-joins : goal.returns-then-not-joins
+returns-then-not-joins c =
+    let s = c.args.self.now in
+    note-none s c.args.lo c.args.hi (take c.args.depth c.args.roles ++ c.args.last ∷ []) c.args.found.now.items (noted-no_candidate s.show.now s.ats.now s.kind c.args.lo c.args.hi (take c.args.depth c.args.roles ++ c.args.last ∷ []) (sym c.joins.ensures ∙ c.if-not-joins.true))
 
 pub returns-then-not-is_between : goal.returns-then-not-is_between
 returns-then-not-is_between c =
     let s = c.args.self.now in
-    note-none s c.args.lo c.args.hi c.args.t.now c.args.found.now.items (noted-outside s.show.now s.ats.now s.kind c.args.lo c.args.hi c.args.t.now (between (goal.at.returns-then-not-is_between c).After-is_between ∙ c.if-not-is_between.true))
-
-pub returns-then-not-is_candidate : goal.returns-then-not-is_candidate
-returns-then-not-is_candidate c =
-    let s = c.args.self.now in
-    note-none s c.args.lo c.args.hi c.args.t.now c.args.found.now.items (noted-no_candidate s.show.now s.ats.now s.kind c.args.lo c.args.hi c.args.t.now (sym c.is_candidate.ensures ∙ c.if-not-is_candidate.true))
+    note-none s c.args.lo c.args.hi (take c.args.depth c.args.roles ++ c.args.last ∷ []) c.args.found.now.items (noted-outside s.show.now s.ats.now s.kind c.args.lo c.args.hi (take c.args.depth c.args.roles ++ c.args.last ∷ []) (between (goal.at.returns-then-not-is_between c).After-is_between ∙ c.if-not-is_between.true))
 
 pub returns : goal.returns
 returns c =
     let s = c.args.self.now in
-    let t = c.args.t.now in
+    let t = take c.args.depth c.args.roles ++ c.args.last ∷ [] in
     let b = (goal.at.returns c).After-is_between in
-    let yes = noted-both s.show.now s.ats.now s.kind c.args.lo c.args.hi t (between b ∙ c.if-not-is_between.false) (sym c.is_candidate.ensures ∙ c.if-not-is_candidate.false) in
-    c.in_ok-push.ensures.items ∙ note-one s c.args.lo c.args.hi t c.args.found.now.items _ yes (product-is s.ats.now s.kind t c.padded.result _ (value b) c.padded.ensures)
+    let four : length c.args.roles ≡ 4 = omega arith in
+    let whole : take (c.args.depth + 1) (set c.args.roles c.args.depth c.args.last) ≡ t = take_more_set c.args.roles c.args.depth c.args.last (omega (arith, four, four_roles s.kind, c.requires.depth)) in
+    let yes = noted-both s.show.now s.ats.now s.kind c.args.lo c.args.hi t (between b ∙ c.if-not-is_between.false) (sym c.joins.ensures ∙ c.if-not-joins.false) in
+    c.in_ok-push.ensures.items ∙ note-one s c.args.lo c.args.hi t c.args.found.now.items _ yes (product-is s.ats.now s.kind t c.padded.result _ (value b) (rw whole at c.padded.ensures))
