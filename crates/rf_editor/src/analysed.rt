@@ -1,3 +1,5 @@
+//! A show together with its analysis, which each edit keeps up.
+
 ghost use Rattle.std.specs.Prelude.{◌≡◌, IfOk, IfErr, OnErr, IsSome, IsTrue, Ok, Err, Some};
 ghost use Rattle.rf_rules.specs.Analyses.{analysed};
 ghost use Rattle.rf_rules.specs.Products.{listed};

@@ -1,3 +1,5 @@
+//! The editor: a show, and the way back and forth through its history.
+
 ghost use Rattle.std.specs.Prelude.{◌≡◌, ◌↔◌, IfOk, IsTrue, OnOk, OnErr, Ok, Err, Some, None};
 ghost use Rattle.rf_rules.specs.Analyses.{analysed};
 ghost use Rattle.rf_rules.specs.Products.{listed};

@@ -1,3 +1,5 @@
+//! One step through the history, from one stack of edits to the other.
+
 ghost use Rattle.std.specs.Prelude.{◌≡◌, ◌↔◌, ◌∷◌, ◌++◌, ◌<◌, [], vec_len, vec_capacity, OnOk, OnErr, IsSome, IfOk, Some, Err};
 ghost use Rattle.rf_show.specs.Taken.{taken};
 ghost use Rattle.rf_editor.specs.Trail.{stack_trail, StackLeads};

@@ -1,3 +1,5 @@
+//! The propagator of what is not allowed.
+
 ghost use Rattle.std.specs.Prelude.{◌≡◌, ◌<◌, ◌≤◌, [], List, OnOk, IfOk, None, true, length};
 ghost use Rattle.rf_log.specs.Case.{count_of, counts_of};
 ghost use Rattle.rf_log.specs.Hints.{Line};

@@ -1,3 +1,5 @@
+//! The engine of all rules over a problem.
+
 ghost use Rattle.std.specs.Prelude.{◌≡◌, ℕ, List, Ok};
 ghost use Rattle.rf_log.specs.Case.{counts_of};
 ghost use Rattle.rf_log.specs.Hints.{Line};

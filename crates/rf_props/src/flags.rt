@@ -1,3 +1,5 @@
+//! Flags, one a carrier: who is single, and who is newly so.
+
 ghost use Rattle.std.specs.Prelude.{◌≡◌, ℕ, ◌<◌, All, true, false, length, IfOk};
 ghost use Rattle.std.specs.List.{list_all};
 ghost use Rattle.rf_log.specs.Case.{counts_of};

@@ -1,3 +1,5 @@
+//! Whether carriers can take a kind's roles at all.
+
 ghost use Rattle.std.specs.Prelude.{◌≡◌, ◌<◌, ◌≤◌, All, length};
 ghost use Rattle.rf_terms.specs.Kinds.{roles_of};
 ghost use Rattle.rf_log.specs.Case as case;

@@ -1,3 +1,5 @@
+//! Which stretches of the band are still left to anyone.
+
 ghost use Rattle.std.specs.Prelude.{◌≡◌, ℕ, ◌<◌, ◌≤◌, true, false, length, IfOk, pos, ◌≤ℤ◌, ◌<ℤ◌};
 ghost use Rattle.rf_log.specs.Case.{counts_of};
 ghost use Rattle.rf_problem.specs.Problem.{case_of};

@@ -1,3 +1,5 @@
+//! The propagators of the rule table, one for each number of roles.
+
 ghost use Rattle.std.specs.Prelude.{◌≡◌, [], None, false};
 ghost use Rattle.rf_terms.specs.Kinds.{kinds_with};
 ghost use Rattle.rf_problem.specs.Problem.{case_of};

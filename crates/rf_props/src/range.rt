@@ -1,3 +1,5 @@
+//! From frequencies to the indices of channels, by search in a rising list.
+
 ghost use Rattle.std.specs.Prelude.{◌≡◌, true, ℕ, ◌<◌, ◌≤◌, ◌↔◌, length, pos, ◌≤ℤ◌, ◌<ℤ◌, MatchOption};
 ghost use Rattle.std.specs.List.Sorted.{IsStrictlyIncreasing};
 ghost use Rattle.rf_terms.specs.Forms.{AreFrequencies};

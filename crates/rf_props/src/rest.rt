@@ -1,3 +1,5 @@
+//! Where a propagator came to rest, so that it needn't look at everything anew.
+
 ghost use Rattle.std.specs.Prelude.{◌≡◌, ℕ, List, Ok, None, false};
 ghost use Rattle.rf_terms.specs.declared.kind.Kind.{Kind};
 ghost use Rattle.rf_log.specs.Case.{counts_of};

@@ -1,3 +1,5 @@
+//! Lists of carriers that take a kind's roles, filled up to four.
+
 ghost use Rattle.std.specs.Prelude.{◌≡◌, ◌+◌, ◌<◌, ◌≤◌, ℕ, insert, length, take, slice_index_or};
 
 /// The others with the target in one more role. The roles beyond these are 0.

@@ -1,3 +1,5 @@
+//! One round over the kinds with one number of roles.
+
 ghost use Rattle.std.specs.Prelude.{◌≡◌, ◌<◌, List, OnOk, length};
 ghost use Rattle.rf_terms.specs.Kinds.{roles_of};
 ghost use Rattle.rf_log.specs.Case.{counts_of};

@@ -1,3 +1,5 @@
+//! Carriers that have come to one index, and its frequency.
+
 ghost use Rattle.std.specs.Prelude.{◌≡◌, ◌<◌, ◌≤◌, All, length, take, MatchOption};
 ghost use Rattle.rf_log.specs.Case.{counts_of};
 ghost use Rattle.rf_problem.specs.Problem.{case_of};

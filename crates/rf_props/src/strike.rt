@@ -1,3 +1,5 @@
+//! What one instance takes from its target.
+
 ghost use Rattle.std.specs.Prelude.{◌≡◌, ℕ, ◌+◌, ◌<◌, ◌≤◌, All, List, OnOk, false, true, insert, length, MatchOption, take};
 ghost use Rattle.rf_terms.specs.Kinds.{roles_of};
 ghost use Rattle.rf_zones.specs.declared.mask.TheConstants.{MAX_CARRIERS};

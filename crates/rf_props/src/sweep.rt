@@ -1,3 +1,5 @@
+//! The sweep through the instances of a kind for one target.
+
 ghost use Rattle.std.specs.Prelude.{◌≡◌, ◌+◌, ◌<◌, ◌≤◌, All, List, Ok, OnOk, length, take, true};
 ghost use Rattle.std.specs.List.{list_all};
 ghost use Rattle.rf_terms.specs.Kinds.{roles_of};

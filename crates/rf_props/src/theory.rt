@@ -1,3 +1,5 @@
+//! The theory of a problem: its case and its nogood lines.
+
 ghost use Rattle.std.specs.Prelude.{◌≡◌, [], IfOk};
 ghost use Rattle.std.specs.List.Sorted.{IsStrictlyIncreasing};
 ghost use Rattle.rf_log.specs.Case.{counts_of};

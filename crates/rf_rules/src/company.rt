@@ -1,3 +1,5 @@
+//! Who is together with whom in a show, by masks that are made once.
+
 ghost use Rattle.std.specs.Prelude.{◌≡◌, ◌<◌, ◌≤◌, ◌∷◌, ◌++◌, [], ℕ, All, IfOk, length, slice_index_or};
 ghost use Rattle.std.specs.List.{list_all, list_any};
 ghost use Rattle.rf_zones.specs.Masks.{has_bit, has_bits};

@@ -1,3 +1,5 @@
+//! Conflicts, as an analysis lists them.
+
 use rf_terms::Kind;
 
 /// A rule that a show breaks. Carriers are places in the show's list, frequencies are in kilohertz.

@@ -1,3 +1,5 @@
+//! Where the carriers of a show stand, in one row.
+
 ghost use Rattle.std.specs.Prelude.{◌≡◌, ◌<◌, ◌≤◌, length, pos, take, unsigned_abs, unwrap_or};
 ghost use Rattle.rf_rules.specs.Instances.{at_in, ats_of};
 

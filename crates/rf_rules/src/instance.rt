@@ -1,3 +1,5 @@
+//! Whether carriers of a show are an instance of a kind.
+
 ghost use Rattle.std.specs.Prelude.{◌≡◌, ◌∷◌, ◌++◌, ◌+◌, [], List, ℕ, ◌≤◌, false, length, slice_index_or};
 ghost use Rattle.std.specs.Bool.{OnTrue};
 ghost use Rattle.rf_rules.specs.Instances as instances;

@@ -1,3 +1,5 @@
+//! What each carrier adds to a kind's form, and what it asks, for the last role.
+
 ghost use Rattle.std.specs.Prelude.{◌≡◌, ◌≤◌, ◌==◌, All, length, map, take};
 ghost use Rattle.std.specs.List.{list_all};
 ghost use Rattle.rf_rules.specs.Instances.{IsLimited};

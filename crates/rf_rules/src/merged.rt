@@ -1,3 +1,5 @@
+//! Two lists of broken instances made into one, in order.
+
 ghost use Rattle.std.specs.Prelude.{◌≡◌, ◌<◌, ◌≤◌, ◌-◌, ◌++◌, ◌∷◌, [], OnOk, IfOk, List, ℕ, length, take};
 ghost use Rattle.rf_terms.specs.Kinds.{roles_of};
 ghost use Rattle.rf_rules.specs.Tallies.{Extends, shown_of};

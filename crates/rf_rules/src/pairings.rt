@@ -1,3 +1,5 @@
+//! Which carriers may stand last but one, by the value of the form so far.
+
 ghost use Rattle.std.specs.Prelude.{◌≡◌, ◌<◌, ◌≤◌, ◌%◌, ◌||◌, ◌+ℤ◌, ℕ, ℤ, true, false, IfOk, length, slice_index_or, unsigned_abs};
 ghost use Rattle.std.specs.Bool.{OnTrue};
 ghost use Rattle.rf_show.specs.Limits.{most_carriers};

@@ -1,3 +1,5 @@
+//! Plans: whether a list of channels keeps all rules of a show.
+
 ghost use Rattle.std.specs.Prelude.{◌≡◌, ◌<◌, ◌↔◌, IsTrue, length, map, slice_index, take};
 ghost use Rattle.std.specs.List.{list_all, list_any};
 ghost use Rattle.rf_terms.specs.Kinds.{kinds};

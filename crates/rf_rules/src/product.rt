@@ -1,3 +1,5 @@
+//! Intermodulation products, and their order by value.
+
 ghost use Rattle.std.specs.Prelude.{◌≡◌, ℕ, OnOk, filter};
 ghost use Rattle.std.specs.List.Sorted.{IsNonDecreasingBy, IsPermutation};
 ghost use Rattle.rf_rules.specs.Products.{has_size, is_between, size_of};

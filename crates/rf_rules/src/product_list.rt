@@ -1,3 +1,5 @@
+//! The products of a show between two frequencies.
+
 ghost use Rattle.std.specs.Prelude.{◌≡◌, ◌++◌, ◌<◌, IfOk, OnOk, length};
 ghost use Rattle.std.specs.List.{flat_map};
 ghost use Rattle.rf_terms.specs.Kinds.{kinds, roles_of};

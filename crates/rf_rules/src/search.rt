@@ -1,3 +1,5 @@
+//! The search for all broken instances of one kind, role by role.
+
 ghost use Rattle.std.specs.Prelude.{◌≡◌, ◌+◌, ◌-◌, ◌<◌, ◌≤◌, ◌++◌, ◌∷◌, [], OnOk, length, take, ℕ, List, true, false, pos, replicate, slice_index_or, unsigned_abs, ◌*ℤ◌};
 ghost use Rattle.std.specs.Bool.{OnTrue};
 ghost use Rattle.std.specs.List.{list_all};

@@ -1,3 +1,5 @@
+//! The search for the products of one kind, source by source.
+
 ghost use Rattle.std.specs.Prelude.{◌≡◌, ◌+◌, ◌-◌, ◌<◌, ◌≤◌, ◌++◌, ◌∷◌, [], OnOk, length, take, true};
 ghost use Rattle.rf_terms.specs.Kinds.{roles_of};
 ghost use Rattle.rf_zones.specs.Masks.{has_bit};

@@ -1,3 +1,5 @@
+//! The front of a long list, with the count of the whole.
+
 ghost use Rattle.std.specs.Prelude.{◌≡◌, ◌+◌, ◌-◌, min, ◌≤◌, ◌<◌, ◌^◌, ◌∷◌, ◌++◌, [], OnOk, vec_len, IsTrue, ◌↔◌};
 
 use crate::conflict::Conflict;

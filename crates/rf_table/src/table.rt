@@ -1,3 +1,5 @@
+//! The table of a show's analysis, and how a change renews it.
+
 ghost use Rattle.std.specs.Prelude.{◌≡◌, ◌≤◌, IfOk, OnErr, OnOk};
 ghost use Rattle.rf_show.specs.Show.{ShowData};
 ghost use Rattle.rf_rules.specs.Analyses.{analysed};

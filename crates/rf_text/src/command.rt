@@ -1,3 +1,5 @@
+//! Commands, and how a line is read as one.
+
 ghost use Rattle.std.specs.Prelude.{◌≡◌, codes, IfOk};
 ghost use Rattle.rf_text.specs.Commands as spec;
 

@@ -1,3 +1,5 @@
+//! A text that grows by the lines of commands.
+
 ghost use Rattle.std.specs.Prelude.{◌≡◌, ◌++◌, ◌∷◌, [], OnOk, string_bytes};
 ghost use Rattle.rf_text.specs.Shows as spec;
 

@@ -1,3 +1,5 @@
+//! How decimals are printed.
+
 ghost use Rattle.std.specs.Prelude.{◌≡◌, ◌++◌, ◌∷◌, [], ◌<◌, ◌^◌, OnOk, string_bytes};
 ghost use Rattle.rf_text.specs.Decimals as spec;
 

@@ -1,3 +1,5 @@
+//! How the lines of edits are read.
+
 ghost use Rattle.std.specs.Prelude.{◌≡◌, codes};
 ghost use Rattle.rf_text.specs.Commands as spec;
 

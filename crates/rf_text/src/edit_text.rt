@@ -1,3 +1,5 @@
+//! How the lines of edits are written.
+
 ghost use Rattle.std.specs.Prelude.{◌≡◌, ◌++◌, ◌∷◌, [], OnOk, map, decimal, string_bytes};
 ghost use Rattle.rf_base.specs.Lines.{joined, spaced};
 ghost use Rattle.rf_text.specs.EditTexts as spec;

@@ -1,3 +1,5 @@
+//! How a carrier's allowed channels are told, run by run.
+
 ghost use Rattle.std.specs.Prelude.{◌≡◌, ◌++◌, ◌∷◌, [], ◌+◌, ◌-◌, ◌<◌, ◌≤◌, ℕ, not, length, decimal, sum_by, IfOk, OnOk, MatchOption, string_bytes};
 ghost use Rattle.std.specs.List.{flat_map, range_with_len};
 ghost use Rattle.rf_show.specs.Query.{is_allowed};

@@ -1,3 +1,5 @@
+//! The operands of a line, each read as what its command takes.
+
 ghost use Rattle.std.specs.Prelude.{◌≡◌, ℕ, List, option_map};
 ghost use Rattle.std.specs.declared.option.Option.{Option};
 ghost use Rattle.rf_base.specs.Name.{name_of};

@@ -1,3 +1,5 @@
+//! The words for what stands between the fields of a scan file.
+
 ghost use Rattle.std.specs.Prelude.{◌≡◌};
 ghost use Rattle.rf_text.specs.Separators as spec;
 

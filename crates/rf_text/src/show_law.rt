@@ -1,3 +1,5 @@
+//! Laws of a show's text: its lines make the show again, and edits keep it within what lines can say.
+
 ghost use Rattle.rf_text.specs.ShowLaw.{EditsStayTextual, LinesMakeShow};
 ghost use Rattle.rf_text.specs.TextLines.{TextHasLines};
 

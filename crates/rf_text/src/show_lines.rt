@@ -1,3 +1,5 @@
+//! The text of a show, as the lines that make it.
+
 ghost use Rattle.std.specs.Prelude.{◌≡◌, ◌<◌, ◌∷◌, [], IfOk, OnOk, length, map, string_bytes};
 ghost use Rattle.std.specs.List.{flat_map};
 ghost use Rattle.rf_text.specs.Shows as spec;

@@ -1,3 +1,5 @@
+//! How a script line falls into words, which are taken one after another.
+
 ghost use Rattle.std.specs.Prelude.{◌≡◌, ◌∷◌, [], option_map, MatchOption};
 ghost use Rattle.std.specs.List.{list_all, slice_split};
 ghost use Rattle.rf_text.specs.Words as spec;

@@ -1,3 +1,5 @@
+//! How the line of a command is written.
+
 ghost use Rattle.std.specs.Prelude.{◌≡◌, ◌++◌, ◌∷◌, [], IfOk, OnOk, Ok, decimal, string_bytes};
 ghost use Rattle.rf_text.specs.CommandTexts as spec;
 ghost use Rattle.rf_text.specs.Commands.{command_of};
