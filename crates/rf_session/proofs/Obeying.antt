@@ -4,7 +4,7 @@ use Rattle.std.specs.Result.{IfOk, IfErr, OnErr}
 use Rattle.std.specs.declared.option.Option.{Option}
 use Rattle.std.specs.Io.KnownBytes.{Appends}
 use Rattle.rf_base.specs.Piece.{AppendsPrefix}
-use Rattle.rf_base.specs.Shelf.{Ask as Asking}
+use Rattle.rf_base.specs.Shelf.{Ask}
 use Rattle.rf_editor.specs.History.{History, edited_history}
 use Rattle.rf_show.specs.Show.{ShowData}
 use Rattle.rf_show.specs.declared.edit.Edit.{Edit}
@@ -107,7 +107,7 @@ told_cut {T} (Err stop) history show answer inquiry said a b is here told part o
     }
 
 module _ (old mid : History) (said : Result Command UnknownLine) (answer : Answer) (written written' : Option (List ℕ))
-    (file file' : List ℕ → Option (Option (List ℕ))) (counts counts' : List ℕ → ℕ) (asked asked' : Option (List Asking))
+    (file file' : List ℕ → Option (Option (List ℕ))) (counts counts' : List ℕ → ℕ) (asked asked' : Option (List Ask))
     (obeyed : Obeyed (λ fetched. ComesTo old said fetched answer mid) (shelf_alone file counts asked) (shelf_alone file' counts' asked')) where
   -- the answer was given
   pub replied_by : {E : Type 0} (r : Result Bool E) (new : History) → IfOk r (Writes (λ reply. Answers mid answer reply new) written written') →
