@@ -11,7 +11,7 @@ use Rattle.std.proofs.lemmas.List.Folds.{list_any-append}
 use Rattle.std.proofs.lemmas.List.Sums.{sum_by-append}
 use Rattle.std.specs.declared.option.Option.{Option}
 use Rattle.rf_base.specs.Shelf.{Ask, AppendsAsks}
-use Rattle.rf_session.specs.Fetches.{Fetched, absent, ask_made, asks_made, of_file, Got, Outside, MayCome, MayBring, MayBringWithin, asks_for, file_limit, Brought, BroughtWithin, KeptCounts, Obeyed}
+use Rattle.rf_session.specs.Fetches.{Fetched, absent, ask_made, of_file, Got, Outside, MayCome, MayBring, MayBringWithin, asks_for, file_limit, Brought, BroughtWithin, KeptCounts, Obeyed}
 
 pub count_by-append : {X : Type 0} (p : X → Bool) (xs ys : List X) → count_by p (xs ++ ys) ≡ count_by p xs + count_by p ys
 count_by-append p xs ys = sum_by-append (λ x. cond (p x) 1 0) xs ys

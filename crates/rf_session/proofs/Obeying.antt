@@ -1,5 +1,5 @@
 -- From what a line came to, what was brought and written.
-use Rattle.std.proofs.Common.{◌≡◌, ◌≢◌, ℕ, Bool, ◌⊎◌, List, [], ◌∷◌, Some, Result, Ok, Err, refl, ap, sym, ◌∙◌, subst, inl, inr, arith, take}
+use Rattle.std.proofs.Common.{◌≡◌, ◌≢◌, ◌≤◌, ℕ, Bool, ◌⊎◌, List, [], ◌∷◌, Some, Result, Ok, Err, refl, ap, sym, ◌∙◌, subst, inl, inr, arith, take}
 use Rattle.std.specs.Result.{IfOk, IfErr, OnErr}
 use Rattle.std.specs.declared.option.Option.{Option}
 use Rattle.std.specs.Io.KnownBytes.{Appends}
@@ -12,7 +12,7 @@ use Rattle.rf_text.specs.Commands.{command_of}
 use Rattle.rf_text.specs.declared.command.Command.{Command}
 use Rattle.rf_text.specs.declared.command.UnknownLine.{UnknownLine}
 use Rattle.rf_session.specs.declared.answer.Answer.{Answer}
-use Rattle.rf_session.specs.declared.answer.Answer.TheVariants.{Reply as Says, Inquiry as Ask}
+use Rattle.rf_session.specs.declared.answer.Answer.TheVariants.{Reply as Says, Inquiry as Inquires}
 use Rattle.rf_session.specs.declared.inquiry.Inquiry.{Inquiry}
 use Rattle.rf_session.specs.declared.file_fault.FileFault.{FileFault}
 use Rattle.rf_session.specs.declared.file_fault.FileFault.TheVariants.{Memory as NoMemory}
@@ -22,7 +22,7 @@ use Rattle.rf_session.specs.declared.reply.Code.{Code}
 use Rattle.rf_session.specs.declared.reply.Code.TheVariants.{UnknownLine as IsUnknownLine}
 use Rattle.rf_session.specs.declared.reply.Reply.{Reply}
 use Rattle.rf_session.specs.declared.reply.Reply.TheVariants.{Error}
-use Rattle.rf_session.specs.Fetches.{absent, fault, fetch_of, of_file, Got, Outside, outside, shelf_alone, Brought, Obeyed}
+use Rattle.rf_session.specs.Fetches.{absent, fault, Fetched, fetch_of, of_file, Got, Outside, outside, shelf_alone, Brought, Obeyed}
 use Rattle.rf_session.specs.Reply.{is_refusal, text_of}
 use Rattle.rf_session.specs.Run.{IsCut, Replied, Writes, WritesPart}
 use Rattle.rf_session.specs.Shows.{AnswerPart, Answers, ComesTo, IsGivable, IsTold, Obeys, PartsOf, coded, moved, edited_by, file_of, outcome, said_outcome}
@@ -87,7 +87,7 @@ givable_by (Err e) old edit is = tt
 
 -- what an inquiry was told was written
 pub told_given : {E : Type 0} (r : Result Bool E) (history : History) (show : ShowData) (answer : Answer) (inquiry : Inquiry) (said : Reply) (a b : Option (List ℕ)) →
-    answer ≡ Ask inquiry → show ≡ history.show → IsTold show inquiry said → IfOk r (λ refusal. Appends a b (text_of said)) →
+    answer ≡ Inquires inquiry → show ≡ history.show → IsTold show inquiry said → IfOk r (λ refusal. Appends a b (text_of said)) →
     IfOk r (λ refusal. refusal ≡ is_refusal said) → IfOk r (Writes (λ reply. Answers history answer reply history) a b)
 told_given (Ok refusal) history show answer inquiry said a b is here told wrote refuses =
     rw is record { reply = said; took = (subst (λ (s : ShowData). IsTold s inquiry said) here told, refl); wrote = wrote; refuses = refuses }
@@ -95,7 +95,7 @@ told_given (Err e) history show answer inquiry said a b is here told wrote refus
 
 -- it was cut short
 pub told_cut : {T : Type 0} (r : Result T Stop) (history : History) (show : ShowData) (answer : Answer) (inquiry : Inquiry) (said : Reply) (a b : Option (List ℕ)) →
-    answer ≡ Ask inquiry → show ≡ history.show → IsTold show inquiry said → OnErr r (AppendsPrefix a b (text_of said)) → OnErr r (r ≡ Err Write) →
+    answer ≡ Inquires inquiry → show ≡ history.show → IsTold show inquiry said → OnErr r (AppendsPrefix a b (text_of said)) → OnErr r (r ≡ Err Write) →
     IfErr r (λ stop. WritesPart (AnswerPart stop history answer) a b)
 told_cut (Ok x) history show answer inquiry said a b is here told part only = tt
 told_cut {T} (Err stop) history show answer inquiry said a b is here told part only =
@@ -160,3 +160,15 @@ pub unknown_obeyed : (old : History) (line : List ℕ) (unknown : UnknownLine) (
     Obeyed (λ fetched. ComesTo old (command_of line) fetched (Says (Error IsUnknownLine)) old) o o
 unknown_obeyed old line unknown o is =
     rw is (Obeyed-absent (λ fetched. ComesTo old (Err unknown) fetched (Says (Error IsUnknownLine)) old) o (fault, refl, refl, refl))
+
+-- nothing was written, and nothing is known of the fetch
+pub cut_none : (cuts : Fetched → List ℕ → Type 0) (before after : Outside) → Appends before.written after.written [] →
+    ((name : List ℕ) → before.faults name ≤ after.faults name) → IsCut cuts before after
+cut_none cuts before after wrote later = record {
+  fetched = absent;
+  part = [];
+  may = inl refl;
+  told = tt;
+  bound = λ name. let fewer : before.faults name ≤ after.faults name = later name in omega arith;
+  wrote = wrote;
+}

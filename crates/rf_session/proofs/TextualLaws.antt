@@ -1,5 +1,5 @@
 -- Edits, undo and redo keep what each show of a history keeps.
-use Rattle.std.proofs.Common.{◌≡◌, List, [], ◌∷◌, ◌&&◌, true, Some, None, Result, Ok, Err, refl, ap, sym, ◌∙◌}
+use Rattle.std.proofs.Common.{◌≡◌, List, [], ◌∷◌, true, Some, Result, Ok, Err, refl}
 use Rattle.std.specs.Prelude.{IsTrue}
 use Rattle.std.specs.List.{list_all}
 use Rattle.std.proofs.lemmas.Bool.{and_parts}

@@ -1,4 +1,4 @@
-use Rattle.std.proofs.Common.{◌≡◌, ◌≤◌, ℕ, ◌+◌, length}
+use Rattle.std.proofs.Common.{◌≡◌, ◌≤◌, ◌+◌, length}
 use Rattle.rf_demo.specs.Lines.{demo_lines}
 use Rattle.rf_session.proofs.Demonstrating.{GoesOn}
 use Rattle.rf_session.proofs.demo.play.Given as goal
