@@ -38,13 +38,9 @@ has_value v p = is_value v p.value
 abbrev pub between : ℕ → ℕ → List ℕ
 between lo hi = map (λ i. lo + i) (upto (hi + 1 - lo))
 
--- the values from lo to hi of some products: for each
-abbrev pub values : ℕ → ℕ → List Product → List Product
-values lo hi all = flat_map (λ v. filter (has_value v) all) (between lo hi)
-
 -- the products from lo to hi: for each value, those that have it, by kind and then by sources
 abbrev pub products : ShowData → ℕ → ℕ → List Product
-products show lo hi = values lo hi (all_products show)
+products show lo hi = flat_map (λ v. filter (has_value v) (all_products show)) (between lo hi)
 
 -- what is shown of them
 abbrev pub listed : ShowData → ℕ → ℕ → Products
@@ -55,6 +51,10 @@ listed show lo hi = record { shown = shown_of (products show lo hi); total = len
 abbrev pub is_between : ℕ → ℕ → ℤ → Bool
 is_between lo hi (pos n) = nat_le lo n && nat_le n hi
 is_between lo hi (negsuc n) = false
+
+-- the products from lo to hi of a list, by their values
+abbrev pub values : ℕ → ℕ → List Product → List Product
+values lo hi all = flat_map (λ v. filter (has_value v) all) (between lo hi)
 
 -- a product's value lies from lo to hi
 abbrev pub lies : ℕ → ℕ → Product → Bool
