@@ -153,7 +153,7 @@ fn texts_are_whole(alloc: Global) -> Result<(), Broken> {
     let empty = Show::new(alloc)?;
     let (_, most) = answered(alloc, &empty, 0)?;
     let closed =
-        b"log 0\nb fix a 0\nn in a 0 0 ; rule spacing a b 2 0 1\nu 2\nn out a 0 0 ; rule spacing a b 2 0 1\nu 4\nrefuted\n";
+        b"log 0\nb fix a 0\nn in a 0 0 ; rule spacing a b 2 0 1\nu 2\nn ; line 2 rule spacing a b 2 0 1\nu 4\nrefuted\n";
     hold(&[
         (
             spent.as_slice() == b"log 0\nspent 0\n".as_slice(),
