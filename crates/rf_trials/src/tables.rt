@@ -115,7 +115,6 @@ fn same_conflict(a: &Conflict, b: &Conflict) -> bool {
 }
 
 fn same_analysis(a: &Analysis, b: &Analysis) -> bool {
-    let (a, b) = (a, b);
     a.total == b.total
         && a.shown.as_slice().len() == b.shown.as_slice().len()
         && a.shown
