@@ -1,7 +1,7 @@
 -- Conditions that are decisions of a path, in the order of the code.
 use Rattle.std.proofs.Common.{◌≡◌, ℕ, zero, suc, ◌+◌, ◌-◌, ◌<◌, List, [], ◌∷◌, Bool, true, false, ◌&&◌, ◌==◌, length, reverse, refl, sym, ◌∙◌, ap, subst, arith, inl, inr}
 use mathlib.Core.Bool.{beq}
-use Rattle.std.specs.Prelude.{Contains, slice_index_or}
+use Rattle.std.specs.Prelude.{Contains, None, slice_index_or}
 use Rattle.std.proofs.lemmas.Bool.{cases_eq, and_parts, eqb-true, true≢false}
 use Rattle.std.proofs.lemmas.List.{length-reverse, length-map, get_or-reverse}
 use Rattle.rf_log.specs.declared.cond.Cond.{Cond}
@@ -31,7 +31,7 @@ level_has levels k d cond low is =
 pub has_level : (levels : List Level) (cond : Cond) → Contains (path_of (reverse levels)) cond → ((k : ℕ) (d : Level) → k < length levels → (slice_index_or levels k d).cond ≡ cond → ⊥) → ⊥
 has_level levels cond has none =
     let n = has.0 in
-    let d : Level = record { cond = cond; mark = record { entries = 0 } } in
+    let d : Level = record { cond = cond; mark = record { entries = 0 }; closed_by = None } in
     let size = length-reverse levels in
     let count = length-map (reverse levels) (λ (l : Level). l.cond) in
     let low : n < length levels = omega (arith, size, count, has.1) in

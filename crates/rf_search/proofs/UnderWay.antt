@@ -1,6 +1,6 @@
 -- The turns of a search keep what it owes.
 use Rattle.std.proofs.Common.{◌≡◌, ℕ, ◌+◌, ◌*◌, ◌-◌, ◌<◌, ◌≤◌, List, [], ◌∷◌, ◌++◌, length, reverse, Bool, true, false, refl, sym, ◌∙◌, ap, subst, arith, slice_index}
-use Rattle.std.specs.Prelude.{Some, IsTrue}
+use Rattle.std.specs.Prelude.{Some, None, IsTrue}
 use Rattle.std.proofs.lemmas.Bool.Decides.{nat_tests}
 use Rattle.rf_terms.specs.declared.kind.Kind.{Kind}
 use Rattle.rf_log.specs.declared.cond.Cond.{Cond}
@@ -103,7 +103,7 @@ branching {case} {lines} {search} choice u rest choice_ =
     }
 
 abbrev pub left_level : Choice → ℕ → Level
-left_level choice entries = record { cond = left_side Fix choice.carrier choice.at; mark = record { entries = entries } }
+left_level choice entries = record { cond = left_side Fix choice.carrier choice.at; mark = record { entries = entries }; closed_by = None }
 
 -- the search after the branch line was handed out and the left side was decided
 pub branched : {case : Case} {lines : List Line} {old : Search} {log : List LogLine} (new : Search) (choice : Choice) → IsUnderWay case lines 0 old log → IsBranching case old choice

@@ -1,8 +1,9 @@
 //! Why a carrier has no index left: the decisions and the hints that it takes, found by walking the trail backwards. Nothing
 //! is promised of them; they are replayed before they are handed out.
 
-ghost use Rattle.std.specs.Prelude.{◌≡◌, ◌≤◌, length};
+ghost use Rattle.std.specs.Prelude.{◌≡◌, ◌≤◌, ◌<◌, length};
 
+use crate::cover::{cover, is_kept, need};
 use crate::level::Level;
 use crate::search::Search;
 use bumpalo::Bump;
@@ -10,6 +11,7 @@ use bumpalo::collections::into_bump_slice;
 use rf_log::{Cond, Hint};
 use rf_propagate::Applies;
 use rf_terms::roles as roles_of;
+use rf_trail::{Entry, Trail};
 use std::alloc::AllocError;
 
 /// Conditions and hints that may be a valid nogood line.
@@ -19,15 +21,15 @@ pub struct Candidate<'a> {
     pub hints: &'a [Hint],
 }
 
-// Says that a carrier is needed, or that it isn't.
-fn mark(needed: &mut [bool], carrier: usize, is_needed: bool) {
-    if carrier < needed.len() {
-        needed[carrier] = is_needed;
-    }
-}
-
-// Says that the carriers are needed whose indices give a hint its effect.
-fn mark_hint<T: Applies>(theory: &T, needed: &mut [bool], hint: Hint) {
+// Keeps what gives the hint of entry `n` its effect: the removals from the carriers that it looks at.
+fn need_for<T: Applies>(
+    theory: &T,
+    trail: &Trail,
+    kept: &mut [bool],
+    done: &mut [bool],
+    hint: Hint,
+    n: usize,
+) {
     match hint {
         Hint::Ban { .. } => {}
         Hint::Rule {
@@ -38,18 +40,59 @@ fn mark_hint<T: Applies>(theory: &T, needed: &mut [bool], hint: Hint) {
         } => {
             for i in 0..roles_of(kind) {
                 if i != target as usize {
-                    mark(needed, roles[i] as usize, true);
+                    need(trail, kept, done, roles[i] as usize, n);
                 }
             }
         }
-        Hint::Earlier { line } => {
-            if let Some(conds) = theory.line(line) {
-                for cond in conds {
-                    mark(needed, cond.carrier as usize, true);
-                }
-            }
+        Hint::Earlier { line } => need_line(theory, trail, kept, done, line, n),
+    }
+}
+
+// Keeps what makes the conditions of a line hold; the one on the entry's own carrier alone where the line takes out all of it.
+fn need_line<T: Applies>(
+    theory: &T,
+    trail: &Trail,
+    kept: &mut [bool],
+    done: &mut [bool],
+    line: u32,
+    n: usize,
+) {
+    let Some(conds) = theory.line(line) else {
+        return;
+    };
+    let entry = entry_at(trail, n);
+    let takes_all = match entry {
+        Some(entry) => takes_all(trail, entry),
+        None => false,
+    };
+    for cond in conds {
+        let carrier = cond.carrier as usize;
+        if takes_all || !is_on(entry, carrier) {
+            need(trail, kept, done, carrier, n);
         }
     }
+}
+
+fn entry_at(trail: &Trail, n: usize) -> Option<Entry> {
+    if n < trail.len() {
+        return Some(trail.entry(n));
+    }
+    None
+}
+
+fn is_on(entry: Option<Entry>, carrier: usize) -> bool {
+    match entry {
+        Some(entry) => entry.carrier == carrier,
+        None => false,
+    }
+}
+
+// Whether the entry's range is all of its carrier.
+fn takes_all(trail: &Trail, entry: Entry) -> bool {
+    let domains = trail.domains();
+    entry.lo == 0
+        && entry.carrier < domains.carriers()
+        && entry.hi >= domains.size(entry.carrier).saturating_sub(1)
 }
 
 // The last of the first levels whose decision came at entry `n` or before it.
@@ -63,40 +106,63 @@ fn level_at(levels: &[Level], mut count: usize, n: usize) -> usize
     count
 }
 
-/// What it takes for the carrier to have no index left.
+// The line that closed the left side of a right side, where it is one by which the right side's index would fall.
+fn closing<T: Applies>(theory: &T, level: Level) -> Option<Hint> {
+    let line = level.closed_by?;
+    let conds = theory.line(line)?;
+    let left = Cond {
+        inside: true,
+        ..level.cond
+    };
+    if !conds.contains(&left) {
+        return None;
+    }
+    Some(Hint::Earlier { line })
+}
+
+/// What it takes for the carrier to have no index left. A right side stands for the line that closed its left side.
 pub fn analyse<'a, T: Applies>(
     bump: &'a Bump,
     theory: &T,
     search: &Search,
     carrier: usize,
 ) -> Result<Candidate<'a>, AllocError> {
-    let mut needed = Vec::new(bump);
-    for c in 0..theory.counts().len() {
-        needed.push(c == carrier)?;
+    let trail = &search.trail;
+    let mut kept = Vec::new(bump);
+    for _ in 0..trail.len() {
+        kept.push(false)?;
     }
+    let mut done = Vec::new(bump);
+    for _ in 0..trail.domains().carriers() {
+        done.push(false)?;
+    }
+    cover(trail, kept.as_mut_slice(), carrier, trail.len());
     let mut conds = Vec::new(bump);
     let mut hints = Vec::new(bump);
     let mut level = search.levels.len();
-    let entries = search.trail.len();
+    let entries = trail.len();
     for back in 0..entries {
         let n = entries - 1 - back;
-        let entry = search.trail.entry(n);
-        if entry.carrier >= needed.len() || !needed[entry.carrier] {
-            continue;
-        }
-        if let Some(hint) = entry.hint {
-            hints.push(hint)?;
-            mark_hint(theory, needed.as_mut_slice(), hint);
+        if !is_kept(kept.as_slice(), n) {
             continue;
         }
         level = level_at(search.levels.as_slice(), level, n);
+        if let Some(hint) = reason(theory, search, level, n) {
+            hints.push(hint)?;
+            need_for(
+                theory,
+                trail,
+                kept.as_mut_slice(),
+                done.as_mut_slice(),
+                hint,
+                n,
+            );
+            continue;
+        }
         if level > 0 {
             let cond = search.levels[level - 1].cond;
             if !conds.as_slice().contains(&cond) {
                 conds.push(cond)?;
-            }
-            if cond.inside && cond.lo == cond.hi {
-                mark(needed.as_mut_slice(), entry.carrier, false);
             }
         }
     }
@@ -105,4 +171,18 @@ pub fn analyse<'a, T: Applies>(
         conds: into_bump_slice(conds),
         hints: into_bump_slice(hints),
     })
+}
+
+// The hint of entry `n`, or of a right side the line that closed its left side. None where its decision is needed.
+fn reason<T: Applies>(theory: &T, search: &Search, level: usize, n: usize) -> Option<Hint>
+    requires level { level ≤ length search.now.levels.items }
+    requires known { n < length search.now.trail.entries }
+{
+    if let Some(hint) = search.trail.entry(n).hint {
+        return Some(hint);
+    }
+    if level == 0 {
+        return None;
+    }
+    closing(theory, search.levels[level - 1])
 }

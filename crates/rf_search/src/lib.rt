@@ -5,6 +5,7 @@ mod analysis;
 mod answer;
 mod choice;
 mod closing;
+mod cover;
 mod handing;
 mod hints;
 mod laws;

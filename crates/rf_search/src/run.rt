@@ -136,7 +136,12 @@ fn branch<T: Theory, L: LogOut>(
     search.lines += 1;
     search.branches += 1;
     let mark = search.trail.mark();
-    let Ok(()) = search.levels.push(Level { cond, mark }) else {
+    let Ok(()) = search.levels.push(Level {
+        cond,
+        mark,
+        closed_by: None,
+    })
+    else {
         return Err(SolveFault::Memory);
     };
     let Ok(()) = search.trail.decide(cond) else {
