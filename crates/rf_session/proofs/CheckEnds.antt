@@ -14,7 +14,8 @@ use Rattle.rf_session.proofs.CheckFailures.{NotFound-found}
 use Rattle.rf_session.proofs.Checking.{may_fail}
 
 -- what was fetched is the same, whatever was written
-Fetching-written : (finds : List Fetched → List Fetched → Type 0) (written written' : Option (List ℕ)) (file file' : List ℕ → Option (Option (List ℕ))) (counts counts' : List ℕ → ℕ) (asked asked' : Option (List Ask)) →
+Fetching-written : (finds : List Fetched → List Fetched → Type 0) (written written' : Option (List ℕ))
+    (file file' : List ℕ → Option (Option (List ℕ))) (counts counts' : List ℕ → ℕ) (asked asked' : Option (List Ask)) →
     Fetching finds (shelf_alone file counts asked) (shelf_alone file' counts' asked') → Fetching finds (outside written file counts asked) (outside written' file' counts' asked')
 Fetching-written finds written written' file file' counts counts' asked asked' it = record {
   first = it.first;
@@ -26,7 +27,8 @@ Fetching-written finds written written' file file' counts counts' asked asked' i
   kept = it.kept;
 }
 
-pub Unjudged-kept : (show log : List ℕ) (written : Option (List ℕ)) (file file' : List ℕ → Option (Option (List ℕ))) (counts counts' : List ℕ → ℕ) (asked asked' : Option (List Ask)) →
+pub Unjudged-kept : (show log : List ℕ) (written : Option (List ℕ))
+    (file file' : List ℕ → Option (Option (List ℕ))) (counts counts' : List ℕ → ℕ) (asked asked' : Option (List Ask)) →
     KeepsOthers show log (shelf_alone file counts asked) (shelf_alone file' counts' asked') → Unjudged show log (outside written file counts asked) (outside written file' counts' asked')
 Unjudged-kept show log w file file' counts counts' asked asked' keeps =
     record { unwritten = refl; keeps = record { got = keeps.got; may = keeps.may; others = keeps.others } }
@@ -54,7 +56,8 @@ Checks-told judge Shelf show log finding w w' file file' counts counts' asked as
 Checks-told judge Long show log finding w w' file file' counts counts' asked asked' it keeps bad = absurd bad
 
 -- the shelf failed
-pub Checks-failed : (judge : Judging) (r : Result Finding CheckFault) (show log : List ℕ) (written : Option (List ℕ)) (file file' : List ℕ → Option (Option (List ℕ))) (counts counts' : List ℕ → ℕ) (asked asked' : Option (List Ask)) →
+pub Checks-failed : (judge : Judging) (r : Result Finding CheckFault) (show log : List ℕ) (written : Option (List ℕ))
+    (file file' : List ℕ → Option (Option (List ℕ))) (counts counts' : List ℕ → ℕ) (asked asked' : Option (List Ask)) →
     r ≡ Err NotFetched → IfFound r (Found judge show log (shelf_alone file counts asked) (shelf_alone file' counts' asked')) →
     Checks judge Shelf show log (outside written file counts asked) (outside written file' counts' asked')
 Checks-failed judge r show log w file file' counts counts' asked asked' is finds =

@@ -24,8 +24,10 @@ pub fn run_clean(
     ensures read { result ≢ Status.Read }
     ensures write { result ≢ Status.Write }
     ensures shelf { result ≢ Status.Shelf }
-    ensures done { (asks words.now ≡ Some Asked.Session → length (left_in input.old) ≤ script_limit) → EndsWell (asks words.now) result }
-    ensures fetched { asks words.now ≡ Some Asked.Session → (refusal : Bool) → result ≡ (if refusal then Status.Refused else Status.Done) →
+    ensures done { (asks words.now ≡ Some Asked.Session → length (left_in input.old) ≤ script_limit) →
+        EndsWell (asks words.now) result }
+    ensures fetched { asks words.now ≡ Some Asked.Session → (refusal : Bool) →
+        result ≡ (if refusal then Status.Refused else Status.Done) →
         HeadlineClean (clean_outside shelf.old) (clean_outside shelf.new) (left_in input.old) refusal }
 {
     run(alloc, words, input, shelf, output)
