@@ -15,7 +15,8 @@ use std::test::Fail;
 
 const NUMBERS: [u32; Profile::NUMBERS] = [500_000, 502_000, 25, 350, 0, 90, 50, 60, 40, 25];
 
-const WIDE: [u32; Profile::NUMBERS] = [470_000, 700_000, 25, 350, 0, 100, 50, 50, 25, 25];
+// Few of the products of carriers in it are near a victim, so that the conflicts are fewer than are shown.
+const WIDE: [u32; Profile::NUMBERS] = [470_000, 700_000, 25, 350, 0, 10, 10, 10, 10, 10];
 
 /// A name of one letter.
 fn letter(number: u64) -> Option<Name> {
@@ -250,7 +251,7 @@ fn profiling() -> Option<Edit>
 }
 
 /// By how much the count of evaluated products rises where one of 64 carriers goes to another frequency. None where the show
-/// could not be made.
+/// could not be made, or has so many conflicts that the table is made afresh.
 fn risen(alloc: Global) -> Result<Option<u64>, NoMemory> {
     let mut show = Show::new(alloc)?;
     let mut all = made(&mut show, profiling());
@@ -263,7 +264,7 @@ fn risen(alloc: Global) -> Result<Option<u64>, NoMemory> {
     let before = table.evaluated();
     all = made(&mut show, setting(30, 100)) && all;
     table.change(&show)?;
-    if !all {
+    if !all || table.conflicts().total > 10_000 {
         return Ok(None);
     }
     Ok(Some(table.evaluated().saturating_sub(before)))
@@ -286,6 +287,10 @@ fn all(alloc: Global) -> Result<(), Broken> {
         (
             WITH_ONE == 23_814,
             "so many products have a given carrier for a source",
+        ),
+        (
+            rose.is_some(),
+            "64 carriers stand with fewer conflicts than are shown",
         ),
         (
             rose.is_some_and(|n| n > 0 && n <= WITH_ONE),
