@@ -1,3 +1,5 @@
+//! The search of a problem, with every propagator and with advice.
+
 ghost use Rattle.std.specs.Prelude.{◌≡◌, ◌≤◌, List, Err, IfOk, length};
 ghost use Rattle.rf_base.specs.Cause.{Rose};
 ghost use Rattle.rf_log.specs.Solved.{IsStarted, IsSolved};

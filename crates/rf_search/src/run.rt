@@ -1,3 +1,5 @@
+//! The loop of a search: settle, close, branch.
+
 ghost use Rattle.std.specs.Prelude.{◌≡◌, ◌<◌, ◌≤◌, ℕ, None, Some, Ok, Err, IfOk, IfErr, OnOk, length};
 ghost use Rattle.rf_base.specs.Cause.{Rose};
 ghost use Rattle.rf_log.specs.Relations.{IsEmptied};

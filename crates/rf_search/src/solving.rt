@@ -1,3 +1,5 @@
+//! A whole search by any engine, up to its log handed out.
+
 ghost use Rattle.std.specs.Prelude.{◌≡◌, ◌≤◌, ℕ, [], List, Err, All, take, length, OnOk, IfOk};
 ghost use Rattle.rf_base.specs.Cause.{Rose};
 ghost use Rattle.rf_log.specs.Case.{counts_of};
