@@ -208,11 +208,10 @@ fn carrier_name(number: u64) -> Option<Name> {
     ])
 }
 
-/// The edit that gives one of 64 carriers a frequency.
-fn setting(number: u64, draw: u64) -> Option<Edit>
+/// The edit that gives one of 64 carriers a drawn frequency.
+fn setting(number: u64, draws: &mut Draws) -> Option<Edit>
     ensures { IfSome result (λ edit. IsTrue (is_edit edit)) }
 {
-    let mut draws = Draws { state: draw };
     Some(Edit::SetAt {
         name: carrier_name(number)?,
         khz: 470_000 + 25 * draws.below(9_000) as u32,
@@ -253,16 +252,17 @@ fn profiling() -> Option<Edit>
 /// By how much the count of evaluated products rises where one of 64 carriers goes to another frequency. None where the show
 /// could not be made, or has so many conflicts that the table is made afresh.
 fn risen(alloc: Global) -> Result<Option<u64>, NoMemory> {
+    let mut draws = Draws { state: 7 };
     let mut show = Show::new(alloc)?;
     let mut all = made(&mut show, profiling());
     for number in 0..64 {
         let there = made(&mut show, adding(number));
-        let set = made(&mut show, setting(number, number));
+        let set = made(&mut show, setting(number, &mut draws));
         all = all && there && set;
     }
     let mut table = Table::of(alloc, &show)?;
     let before = table.evaluated();
-    all = made(&mut show, setting(30, 100)) && all;
+    all = made(&mut show, setting(30, &mut draws)) && all;
     table.change(&show)?;
     if !all || table.conflicts().total > 10_000 {
         return Ok(None);
