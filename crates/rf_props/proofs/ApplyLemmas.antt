@@ -1,15 +1,17 @@
 -- What a rule and a ban take out of sets.
 use Rattle.std.proofs.Common.{◌≡◌, ◌∙◌, ℕ, zero, suc, ◌+◌, ◌-◌, ◌<◌, ◌≤◌, ◌==◌, Bool, true, false, not, ◌&&◌, ◌||◌, ◌⊎◌, List, [], ◌∷◌, ◌++◌, length, take, drop, get_or, refl, sym, ap, subst, inl, inr, arith}
-use Rattle.std.specs.Prelude.{All, insert, is_some, nat_le}
+use Rattle.std.specs.Prelude.{All, insert, is_some, pos, nat_le, Some, None, if◌then◌else◌, slice_index_or}
 use Rattle.std.specs.List.{list_all, remove}
-use Rattle.std.proofs.lemmas.Bool.{cases_Bool, cases_lt, and_parts, true≢false, leb-true}
+use Rattle.std.proofs.lemmas.Bool.{cases_Bool, cases_lt, and_parts, true≢false, leb-true, le-leb}
 use Rattle.std.proofs.lemmas.Bool.Decides.{nat_tests}
 use Rattle.std.proofs.lemmas.List.{get_or_past, get_or_default, get_or-drop, length-drop}
 use borrow.Rule.Slice.PartMut.{put_mid}
 use Rattle.rf_terms.specs.declared.kind.Kind.{Kind}
-use Rattle.rf_log.specs.Case.{Case, count_of, counts_of, is_instance, is_among, is_allowed}
-use Rattle.rf_log.specs.Box.{Box, between, only_index}
-use Rattle.rf_log.specs.Hints.{is_ruled_out, is_barred}
+use Rattle.rf_terms.specs.Kinds.{roles_of}
+use Rattle.rf_terms.specs.Windows.{Breaks}
+use Rattle.rf_log.specs.Case.{Case, count_of, counts_of, freq_of, margin_of, is_instance, is_among, is_allowed, breaks}
+use Rattle.rf_log.specs.Box.{Box, between, only_index, each_below}
+use Rattle.rf_log.specs.Hints.{is_ruled_out, is_barred, indices_with}
 use Rattle.rf_log.proofs.Kept.{each_below-at, each_below-from}
 use Rattle.rf_propagate.specs.Applied.{IsRangeIn, AreRolesIn}
 use Rattle.rf_props.specs.Sweeps.{AreFixed, AreBroken, IsHarmless, AreSingle, HaveMany}
