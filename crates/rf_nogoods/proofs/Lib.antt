@@ -1,2 +1,3 @@
 pub mod RemovalLemmas
+pub mod WatchLemmas
 pub mod SweepLemmas

@@ -206,18 +206,23 @@ one_kept old new conds place cond open_ part = record {
 not_held : (b : Box) (cond : Cond) (k : ℕ) → IsUnmet b cond k → Holds b cond → ⊥
 not_held b cond k unmet held = true≢false (sym (held.each k unmet.here) ∙ unmet.unmet)
 
-pub two_done : (case : Case) (b : Box) (conds : List Cond) (i j : ℕ) → IsNextOpen b conds 0 i → IsNextOpen b conds (i + 1) j → IsDone case (members b) conds
-two_done case b conds i j first second = record {
+pub any_cond : Cond
+any_cond = record { carrier = 0; inside = true; lo = 0; hi = 0 }
+
+pub two_blocked : (case : Case) (b : Box) (conds : List Cond) (i j : ℕ) → i < j → j < length conds
+    → ((d : Cond) → (k : ℕ) × IsUnmet b (slice_index_or conds i d) k) → ((d : Cond) → (k : ℕ) × IsUnmet b (slice_index_or conds j d) k) → IsDone case (members b) conds
+two_blocked case b conds i j apart known first second = record {
   blocked = λ living some.
-      let c = slice_index_or conds i none in
-      let d = slice_index_or conds j none in
-      two i j c d (omega (arith, second.later)) second.known (same_at conds i none c first.known) (same_at conds j none d second.known)
-      (λ held. not_held b c (first.fails none).0 (first.fails none).1 (record { each = held }))
-      (λ held. not_held b d (second.fails none).0 (second.fails none).1 (record { each = held }));
+      let c = slice_index_or conds i any_cond in
+      let d = slice_index_or conds j any_cond in
+      two i j c d apart known (same_at conds i any_cond c (omega (arith, apart, known))) (same_at conds j any_cond d known)
+      (λ held. not_held b c (first any_cond).0 (first any_cond).1 (record { each = held }))
+      (λ held. not_held b d (second any_cond).0 (second any_cond).1 (record { each = held }));
 }
-  where
-    none : Cond
-    none = record { carrier = 0; inside = true; lo = 0; hi = 0 }
+
+pub two_done : (case : Case) (b : Box) (conds : List Cond) (i j : ℕ) → IsNextOpen b conds 0 i → IsNextOpen b conds (i + 1) j → IsDone case (members b) conds
+two_done case b conds i j first second =
+    two_blocked case b conds i j (omega (arith, second.later)) second.known first.fails second.fails
 
 pub one_done : (case : Case) (old new : Box) (conds : List Cond) (place : ℕ) (cond : Cond) → IsOneOpen old conds place cond → IsTaken old new cond
     → IsDone case (members new) conds

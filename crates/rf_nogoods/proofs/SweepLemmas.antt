@@ -1,9 +1,9 @@
 -- A sweep in which nothing fell leaves each line done.
-use Rattle.std.proofs.Common.{◌≡◌, ℕ, ◌+◌, ◌<◌, ◌≤◌, List, [], Bool, true, false, length, refl, sym, ◌∙◌, ap, subst, arith, inl, inr}
-use Rattle.std.specs.Prelude.{All, Contains, Some, slice_index_or}
+use Rattle.std.proofs.Common.{◌≡◌, ℕ, ◌+◌, ◌<◌, ◌≤◌, List, [], ◌++◌, Bool, true, false, length, refl, sym, ◌∙◌, ap, subst, arith, inl, inr}
+use Rattle.std.specs.Prelude.{All, Contains, Some, slice_index_or, take, drop}
+use Rattle.std.proofs.Math.Seq.{take-append_seam}
 use Rattle.std.specs.List.Sorted.{IsStrictlyIncreasing}
 use Rattle.std.proofs.lemmas.Bool.{cases_eq, true≢false}
-use Rattle.rf_log.specs.declared.cond.Cond.{Cond}
 use Rattle.rf_log.specs.Case.{Case, counts_of}
 use Rattle.rf_log.specs.Hints.{Line, line_at}
 use Rattle.rf_log.specs.Relations.{members, IsLiving, IsSettled}
@@ -65,10 +65,19 @@ all_fit case held lines known among k d low = λ j e below.
     let here : Contains line.conds cond = (j, below, same_at line.conds j e cond below) in
     record { ordered = range.ordered cond here; known = range.known cond here }
 
-pub item_found : (all lines : List Line) (i : ℕ) (x : Line) (n : ℕ) (cs : List Cond) → All (IsFound all) lines → i < length lines → x ≡ slice_index_or lines i x
-    → n ≡ x.number → cs ≡ x.conds → line_at all n ≡ Some cs
-item_found all lines i x n cs found low is number conds =
-    ap (line_at all) number ∙ (subst (λ (y : Line). IsFound all y) (sym is) (found i x low)).is ∙ ap (λ (y : List Cond). Some y) (sym conds)
+-- the line that was read is the one at its place
+pub item_is : (now held : List Line) (i : ℕ) (e d : Line) → now ≡ held → i < length held → slice_index_or held i d ≡ slice_index_or now i e
+item_is now held i e d same low = same_at held i e d low ∙ ap (λ (ls : List Line). slice_index_or ls i e) (sym same)
+
+pub item_found : (all now held : List Line) (i : ℕ) (d : Line) → now ≡ held → All (IsFound all) held → i < length held
+    → line_at all (slice_index_or now i d).number ≡ Some (slice_index_or now i d).conds
+item_found all now held i d same found low = (subst (λ (ls : List Line). IsFound all (slice_index_or ls i d)) (sym same) (found i d low)).is
+
+-- what is held once the slice of the lines was written back as it was
+pub held_after : (slice new items held : List Line) (len : ℕ) → new ≡ slice → slice ≡ held → length slice ≡ len
+    → take len (new ++ drop (length new) items) ≡ held
+held_after slice new items held len same is sized =
+    subst (λ (n : ℕ). take n (new ++ drop (length new) items) ≡ held) (ap length same ∙ sized) (take-append_seam new (drop (length new) items) ∙ (same ∙ is))
 
 pub fit_slice : (case : Case) (held slice lines : List Line) (counts : List ℕ) → slice ≡ held → counts ≡ counts_of case → AreKnown case lines → AreAmong held lines
     → All (λ line. AllFit counts line.conds) slice

@@ -5,5 +5,6 @@ mod held_line;
 mod nogoods;
 mod removal;
 mod sweep;
+mod watch;
 
 pub use nogoods::Nogoods;

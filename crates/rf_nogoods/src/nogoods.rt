@@ -1,3 +1,5 @@
+//! The lines that were learned, as a propagator.
+
 ghost use Rattle.std.specs.Prelude.{◌≡◌, [], false};
 ghost use Rattle.rf_nogoods.specs.Removals.{AreAmong};
 ghost use Rattle.rf_nogoods.specs.Among.{among_last};
@@ -51,7 +53,7 @@ impl<T: Theory> Propagator<T> for Nogoods {
     fn settle(&mut self, theory: &T, trail: &mut Trail) -> Result<Outcome, NoMemory> {
         'passes: loop {
             let before = trail.left();
-            sweep(self.lines.as_slice(), trail)?;
+            sweep(self.lines.as_mut_slice(), trail)?;
             if let Outcome::Wiped(carrier) = outcome_of(trail) {
                 return Ok(Outcome::Wiped(carrier));
             }

@@ -1,4 +1,6 @@
-ghost use Rattle.std.specs.Prelude.{◌≡◌, ◌<◌, ◌≤◌, ℕ, List, Some, false, length, OnOk};
+//! What one line takes out, and the watches that it gets where it takes nothing out.
+
+ghost use Rattle.std.specs.Prelude.{◌≡◌, ◌<◌, ◌≤◌, ℕ, List, Some, false, length, IfOk, OnOk};
 ghost use Rattle.rf_domain.specs.Indices.{between};
 ghost use Rattle.rf_domain.specs.Sets.{size_of, without};
 ghost use Rattle.rf_log.specs.Case.{Case, counts_of};
@@ -9,7 +11,9 @@ ghost use Rattle.rf_trail.specs.Trace.{has_of, box_of};
 ghost use Rattle.rf_propagate.specs.Laws.{Extends, IsJustified};
 ghost use Rattle.rf_propagate.specs.Openings.{FitsIn, AllFit, HoldFrom, IsOneOpen};
 ghost use Rattle.rf_nogoods.specs.Removals.{IsPart, IsTaken, IsDone, entry_by};
+ghost use Rattle.rf_nogoods.specs.Watched.{AreKept};
 
+use crate::watch::{Watches, watches_at};
 use rf_base::NoMemory;
 use rf_log::{Cond, Hint};
 use rf_propagate::open_from;
@@ -133,18 +137,21 @@ fn take_all(trail: &mut Trail, line: u32, conds: &[Cond]) -> Result<(), NoMemory
 }
 
 /// Removes what a line takes out: where one of its conditions alone does not hold throughout, the indices that meet that
-/// one; where all hold, all that is left to a carrier.
-pub fn take_out(trail: &mut Trail, line: u32, conds: &[Cond]) -> Result<(), NoMemory>
+/// one; where all hold, all that is left to a carrier. Where two do not hold, nothing goes, and these are watched from then on.
+pub fn take_out(trail: &mut Trail, line: u32, conds: &[Cond]) -> Result<Option<Watches>, NoMemory>
     requires { AllFit trail.old.counts conds.now }
     ensures counts { trail.new.counts ≡ trail.old.counts }
     ensures sound { (case : Case) (lines : List Line) → trail.old.counts ≡ counts_of case → line_at lines line ≡ Some conds.now → Extends case lines trail.old.entries trail.new.entries }
     ensures done { OnOk result ((case : Case) → trail.old.counts ≡ counts_of case → IsDone case (box_of trail.new) conds.now) }
+    ensures watches { IfOk result (λ watches. AreKept conds.now watches) }
 {
-    let Some(place) = open_from(trail.domains(), conds, 0) else {
-        return take_all(trail, line, conds);
+    let Some(first) = open_from(trail.domains(), conds, 0) else {
+        take_all(trail, line, conds)?;
+        return Ok(None);
     };
-    if let Some(_) = open_from(trail.domains(), conds, place + 1) {
-        return Ok(());
-    }
-    take_met(trail, line, conds[place])
+    let Some(second) = open_from(trail.domains(), conds, first + 1) else {
+        take_met(trail, line, conds[first])?;
+        return Ok(None);
+    };
+    Ok(watches_at(trail.domains(), conds, first, second))
 }

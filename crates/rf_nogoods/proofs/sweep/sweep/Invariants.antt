@@ -6,8 +6,10 @@ use Rattle.rf_nogoods.specs.Removals.{IsFound}
 use Rattle.rf_nogoods.proofs.SweepLemmas.{IsSwept}
 use Rattle.rf_nogoods.proofs.sweep.sweep.Given as goal
 
-abbrev pub invariant-loop-line : goal.invariant-loop-line
-invariant-loop-line l = record {
+abbrev pub invariant-loop-place : goal.invariant-loop-place
+invariant-loop-place l = record {
+  same : l.lines ≡ l.initial.lines;
   counts : l.trail.counts ≡ l.initial.trail.counts;
-  swept : (case : Case) (all : List Line) → l.initial.trail.counts ≡ counts_of case → All (IsFound all) l.lines → IsSwept case all l.lines l.initial.trail l.trail l.line-index;
+  swept : (case : Case) (all : List Line) → l.initial.trail.counts ≡ counts_of case → All (IsFound all) l.initial.lines
+      → IsSwept case all l.initial.lines l.initial.trail l.trail l.place;
 }
