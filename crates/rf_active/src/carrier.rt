@@ -1,18 +1,18 @@
 //! A carrier of a show as one of a problem.
 
-ghost use Rattle.std.specs.Prelude.{◌≡◌, ◌<◌, ◌≤◌, ℕ, All, IfOk, OnOk, length, map};
+ghost use Rattle.std.specs.Prelude.{◌≡◌, ◌<◌, ◌≤◌, ℕ, All, IfOk, OnOk, Some, length, map};
 ghost use Rattle.std.specs.List.{range_with_len};
 ghost use Rattle.std.specs.List.Sorted.{IsStrictlyIncreasing};
 ghost use Rattle.rf_terms.specs.Forms.{AreFrequencies};
 ghost use Rattle.rf_zones.specs.declared.mask.TheConstants.{MAX_CARRIERS};
-ghost use Rattle.rf_show.specs.Query.{is_allowed};
+ghost use Rattle.rf_show.specs.Query.{is_allowed, profile_of};
 ghost use Rattle.rf_show.specs.Case.{channels_of};
 ghost use Rattle.rf_profiles.specs.Channels as profile;
 ghost use Rattle.rf_active.specs.Active.{IsAdded};
 
 use rf_base::NoMemory;
 use rf_problem::Problem;
-use rf_profiles::Channels;
+use rf_profiles::{Channels, Profile};
 use rf_show::Show;
 use std::alloc::Global;
 
@@ -34,13 +34,14 @@ pub(crate) fn add_carrier(
     requires next { length problem.old.carriers ≡ carrier }
     ensures { OnOk result (IsAdded show.now carrier problem.old problem.new) }
 {
-    let freqs = frequencies(alloc, &show.profile_of(carrier).channels)?;
-    let allowed = flags(alloc, show, carrier)?;
+    let profile = show.profile_of(carrier);
+    let freqs = frequencies(alloc, &profile.channels)?;
+    let allowed = flags(alloc, show, carrier, profile)?;
     problem.add(
         freqs,
         allowed,
-        show.spacing(carrier),
-        &show.margins(carrier),
+        profile.spacing,
+        &profile.margins.list(),
         show.meeters(MORE, carrier),
         show.meeters(PAIR, carrier),
     )
@@ -62,15 +63,22 @@ fn frequencies(alloc: Global, channels: &Channels) -> Result<Vec<u32>, NoMemory>
     Ok(freqs)
 }
 
-/// Which channels of a carrier are allowed.
-fn flags(alloc: Global, show: &Show, carrier: usize) -> Result<Vec<bool>, NoMemory>
-    requires { carrier < length show.now.carriers }
+/// Which channels of a carrier, whose profile is this one, are allowed.
+fn flags(
+    alloc: Global,
+    show: &Show,
+    carrier: usize,
+    profile: &Profile,
+) -> Result<Vec<bool>, NoMemory>
+    requires there { carrier < length show.now.carriers }
+    requires own { profile_of show.now carrier ≡ Some profile.now }
     ensures { IfOk result (λ flags. flags.items ≡ map (is_allowed show.now carrier) (range_with_len 0 (length (channels_of show.now carrier)))) }
 {
-    let count = show.profile_of(carrier).channels.count();
+    let channels = &profile.channels;
+    let count = channels.count();
     let mut flags = Vec::with_capacity(alloc, count as usize)?;
     for k in 0..count {
-        flags.push(show.allowed(carrier, k))?;
+        flags.push(show.may_take(carrier, profile, channels.freq(k)))?;
     }
     Ok(flags)
 }

@@ -1,12 +1,12 @@
 //! What is asked of a show: channels, spacings, margins, what is allowed, and who is together.
 
-ghost use Rattle.std.specs.Prelude.{◌≡◌, ◌<◌, ◌≤◌, All, IsTrue, Some, find, is_some, length, true};
+ghost use Rattle.std.specs.Prelude.{◌≡◌, ◌<◌, ◌≤◌, All, Some, find, is_some, length, true};
 ghost use Rattle.std.specs.Option.{option_copied};
-ghost use Rattle.rf_show.specs.Show.{is_narrow, is_profile};
+ghost use Rattle.rf_profiles.specs.Profile.{margin_widths};
+ghost use Rattle.rf_show.specs.Show.{is_profile};
 ghost use Rattle.rf_show.specs.Query as query;
 ghost use Rattle.rf_terms.specs.Kinds.{roles_of};
 ghost use Rattle.rf_show.specs.Limits.{widest};
-ghost use Rattle.rf_show.specs.Case.{margins_of, spacing_of};
 
 use crate::carrier::Carrier;
 use crate::exclusions::{bans_touch, scans_touch};
@@ -15,23 +15,16 @@ use crate::show::Show;
 use crate::together::{all_meet, meet_at};
 use rf_base::Khz;
 use rf_profiles::Profile;
-use rf_terms::{Kind, MARGINS};
+use rf_terms::Kind;
 use rf_zones::share_minute;
 
 impl Show {
-    /// The profile of a carrier, which is one of the show.
+    /// The profile of a carrier, which is one of the show; what it asks is nowhere wider than a show allows.
     pub fn profile_of(&self, carrier: usize) -> &Profile
         requires { carrier < length self.now.carriers }
-        ensures { query.profile_of self.now carrier ≡ Some result.now }
-    {
-        self.own_profile(carrier)
-    }
-
-    // The profile of a carrier, which asks nothing that is too wide for a show.
-    fn own_profile(&self, carrier: usize) -> &Profile
-        requires { carrier < length self.now.carriers }
         ensures value { query.profile_of self.now carrier ≡ Some result.now }
-        ensures narrow { IsTrue (is_narrow result.now) }
+        ensures spacing { result.now.spacing ≤ widest }
+        ensures margins { All (λ m. m ≤ widest) (margin_widths result.now.margins) }
     {
         let name = self.carriers()[carrier].profile;
         profile_named(self.profiles(), name).unwrap()
@@ -45,33 +38,24 @@ impl Show {
         self.profile_of(carrier).channels.index_of(khz).is_some()
     }
 
-    /// The spacing that a carrier's profile asks, in kilohertz.
-    pub fn spacing(&self, carrier: usize) -> u32
-        requires { carrier < length self.now.carriers }
-        ensures value { result ≡ spacing_of self.now carrier }
-        ensures narrow { result ≤ widest }
-    {
-        self.own_profile(carrier).spacing
-    }
-
-    /// The margins that a carrier's profile asks, in the order of their fields, in kilohertz.
-    pub fn margins(&self, carrier: usize) -> [u32; MARGINS]
-        requires { carrier < length self.now.carriers }
-        ensures value { result ≡ margins_of self.now carrier }
-        ensures narrow { All (λ m. m ≤ widest) result }
-    {
-        self.own_profile(carrier).margins.list()
-    }
-
     /// A frequency is banned for a carrier: a ban or a scan touches it in the carrier's zone, under the half width of its
     /// profile.
-    #[tactic(auto, unfolding(crate::specs::Query::is_banned))]
     pub fn banned(&self, carrier: usize, khz: Khz) -> bool
         requires { carrier < length self.now.carriers }
         ensures { result ≡ query.is_banned self.now carrier khz }
     {
+        self.banned_under(carrier, self.profile_of(carrier), khz)
+    }
+
+    // A frequency is banned for a carrier, whose profile is this one.
+    #[tactic(auto, unfolding(crate::specs::Query::is_banned))]
+    fn banned_under(&self, carrier: usize, profile: &Profile, khz: Khz) -> bool
+        requires there { carrier < length self.now.carriers }
+        requires own { query.profile_of self.now carrier ≡ Some profile.now }
+        ensures { result ≡ query.is_banned self.now carrier khz }
+    {
         let zone = self.carriers()[carrier].zone;
-        let half = self.profile_of(carrier).half;
+        let half = profile.half;
         bans_touch(self.bans(), zone, half, khz) || scans_touch(self.scans(), zone, half, khz)
     }
 
@@ -81,16 +65,18 @@ impl Show {
         requires { carrier < length self.now.carriers }
         ensures { result ≡ query.is_allowed self.now carrier k }
     {
-        let channels = &self.profile_of(carrier).channels;
-        k < channels.count() && self.may_take(carrier, channels.freq(k))
+        let profile = self.profile_of(carrier);
+        k < profile.channels.count() && self.may_take(carrier, profile, profile.channels.freq(k))
     }
 
-    // A carrier may stand at a frequency of its channels.
-    fn may_take(&self, carrier: usize, khz: Khz) -> bool
-        requires { carrier < length self.now.carriers }
+    /// A carrier, whose profile is this one, may stand at a frequency of its channels: the frequency is not banned for it, and
+    /// where it is locked it is its frequency. So many channels are asked about with one look for the profile.
+    pub fn may_take(&self, carrier: usize, profile: &Profile, khz: Khz) -> bool
+        requires there { carrier < length self.now.carriers }
+        requires own { query.profile_of self.now carrier ≡ Some profile.now }
         ensures { result ≡ query.may_take self.now carrier khz }
     {
-        !self.banned(carrier, khz) && may_stand(&self.carriers()[carrier], khz)
+        !self.banned_under(carrier, profile, khz) && may_stand(&self.carriers()[carrier], khz)
     }
 
     /// Two carriers may be together in a set of so many: their zones are the same or coupled, or coupled far where the set

@@ -26,7 +26,7 @@ term c =
     to_z-of_z w64 c.term.result (record { sfits = c.term.type_inv }) ∙ rw (last, khz) at c.term.ensures.value
 
 needs : (c : After-margin) → c.margin.result ≡ asked c.args.show.now c.args.kind c.loop-carrier.carrier
-needs c = c.margin.ensures ∙ sym (ap (λ o. option_map_or (λ p. margin_of p c.args.kind) o 0) c.profile_of.ensures)
+needs c = c.margin.ensures ∙ sym (ap (λ o. option_map_or (λ p. margin_of p c.args.kind) o 0) c.profile_of.ensures.value)
 
 lane : (c : After-margin) → record { term = to_z w64 (of_z w64 c.term.result); needs = c.margin.result } ≡ lane_of c.args.show.now c.args.ats.now c.args.kind c.loop-carrier.carrier
 lane c = lane-same _ _ _ _ (term c) (needs c)

@@ -14,7 +14,7 @@ pub write_runs-requires-clause-within : goal.write_runs-requires-clause-within
 write_runs-requires-clause-within c =
     let items = c.ranges-range-items in
     let within = range_within items.result.now c.loop-range.range-index c.range-item.result c.loop-range-test.true c.range-item.is in
-    rw (c.profile_of.ensures, ← items.ensures.value) (omega (arith, within, c.loop-range.invariant.begins, c.count.ensures.value))
+    rw (c.profile_of.ensures.value, ← items.ensures.value) (omega (arith, within, c.loop-range.invariant.begins, c.count.ensures.value))
 
 pub overflow_add-total : goal.overflow_add-total
 overflow_add-total c =

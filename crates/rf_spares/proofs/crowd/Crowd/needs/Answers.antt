@@ -20,7 +20,7 @@ loop-carrier-preserved c =
     fill-upto (asked c.args.self.now.show.now c.args.kind) c.loop-carrier.needs 96 c.loop-carrier.carrier
     (asked_at c.args.self.now.show.now c.args.self.now.profile c.args.kind) c.margin.result c.loop-carrier.invariant
     (omega (arith, ap length c.carriers-carrier-end.ensures.value, c.carriers-carrier-end.ensures.few, c.loop-carrier-test.true))
-    (c.margin.ensures ∙ sym (ap (λ o. option_map_or (λ p. margin_of p c.args.kind) o 0) c.profile_of.ensures))
+    (c.margin.ensures ∙ sym (ap (λ o. option_map_or (λ p. margin_of p c.args.kind) o 0) c.profile_of.ensures.value))
 
 pub returns : goal.returns
 returns c =
