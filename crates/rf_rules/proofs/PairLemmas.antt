@@ -1,7 +1,7 @@
 -- Lemmas on cells of values, and on carriers in the last role but one with which nothing is broken.
 use Rattle.std.proofs.Common.{◌≡◌, ◌≤◌, ◌<◌, ◌+◌, ◌-◌, ◌*◌, ◌/◌, ◌%◌, ℕ, ℤ, suc, zero, pos, ◌+ℤ◌, ◌-ℤ◌, ◌*ℤ◌, unsigned_abs, Bool, true, false, List, [], ◌∷◌, ◌++◌, length, get_or, refl, ap, sym, ◌∙◌, arith, add-one, inl, inr, ◌⊎◌}
 use Rattle.std.proofs.lemmas.Int.{ints}
-use Rattle.std.proofs.lemmas.List.{length-append}
+use Rattle.std.proofs.lemmas.List.{append_assoc, length-append}
 use Rattle.std.proofs.lemmas.Bool.{true≢false, cases_lt}
 use Rattle.std.proofs.lemmas.Nat.{div_below}
 use Rattle.std.proofs.Math.Nat.{lt-div-mul-add}
@@ -11,15 +11,16 @@ use Rattle.rf_show.specs.Query.{asked, margin_of}
 use Rattle.rf_rules.specs.declared.pairings.Pairings.{Pairings}
 use Rattle.rf_rules.specs.declared.search.Search.{Search}
 use Rattle.rf_rules.specs.Tuples.{found_in, tuples, upto}
-use Rattle.rf_rules.specs.Instances.{distance_of, khz_in}
-use Rattle.rf_rules.specs.Paired.{Covers, HasPairs, cell, mask_near, pair_value}
+use Rattle.rf_rules.specs.Instances.{distance_of, is_broken, khz_in}
+use Rattle.rf_rules.specs.Paired.{Covers, HasPairs, cell, mask_near, pair_value, stands}
 use Rattle.rf_rules.specs.Searches.{IsReady, broken_in, lane_of, partial_of}
 use Rattle.rf_rules.proofs.FormLemmas.{asked-past, distance-is, first-le, lane-term, margin-push, partial-push}
+use Rattle.rf_rules.proofs.HopelessLemmas.{hopeless-unassigned}
 use Rattle.rf_rules.proofs.ReadyLemmas.{ready-bound}
 use Rattle.rf_rules.specs.Tallies.{Extends}
 use Rattle.rf_rules.specs.declared.tally.Tally.{Tally}
 use Rattle.rf_rules.proofs.TallyLemmas.{none-more, same-more}
-use Rattle.rf_rules.proofs.SearchLemmas.{broken-far, step-more}
+use Rattle.rf_rules.proofs.SearchLemmas.{broken-far, broken-no_candidate, step-more}
 use Rattle.rf_rules.proofs.TupleLemmas.{begun, found-at_none, found-end, found-more, found-start, tuples-zero}
 
 -- ---- cells
@@ -103,7 +104,7 @@ whole s t c d n =
     let own : get_or (coefficients_of s.kind) (length t) (pos 0) *ℤ pos (khz_in s.ats.now c) ≡ get_or (coefficients_of s.kind) (roles_of s.kind - 2) (pos 0) *ℤ pos (khz_in s.ats.now c) = ap (λ k. get_or (coefficients_of s.kind) k (pos 0) *ℤ pos (khz_in s.ats.now c)) i in
     omega (arith, ints, partial-push s.kind s.ats.now (t ++ c ∷ []) d, partial-push s.kind s.ats.now t c, last, own)
 
-pub far : (s : Search) (p : Pairings) (t : List ℕ) (c d : ℕ) → IsReady s → ((e : ℕ) → e < length s.ats.now → asked s.show.now s.kind e ≤ p.width) → length t + 2 ≡ roles_of s.kind → d < length s.ats.now → Covers p c (pair_value s c d) → has_bit (mask_near p (partial_of s t)) c ≡ false → margin_of s.show.now s.kind ((t ++ c ∷ []) ++ d ∷ []) ≤ distance_of s.ats.now s.kind ((t ++ c ∷ []) ++ d ∷ [])
+far : (s : Search) (p : Pairings) (t : List ℕ) (c d : ℕ) → IsReady s → ((e : ℕ) → e < length s.ats.now → asked s.show.now s.kind e ≤ p.width) → length t + 2 ≡ roles_of s.kind → d < length s.ats.now → Covers p c (pair_value s c d) → has_bit (mask_near p (partial_of s t)) c ≡ false → margin_of s.show.now s.kind ((t ++ c ∷ []) ++ d ∷ []) ≤ distance_of s.ats.now s.kind ((t ++ c ∷ []) ++ d ∷ [])
 far s p t c d r wide n j covered out =
     let long : length (t ++ c ∷ []) + 1 ≡ roles_of s.kind = omega (arith, length-append t (c ∷ []), n) in
     let first = get_or (t ++ c ∷ []) 0 0 in
@@ -114,12 +115,34 @@ far s p t c d r wide n j covered out =
       | inr q ↦ omega (arith, m, e, q)
     ]
 
+-- carriers are a broken instance
+abbrev broken : Search → List ℕ → Bool
+broken s t = is_broken s.show.now s.ats.now s.kind t
+
+unplaced : (s : Search) (t u : List ℕ) (c : ℕ) → stands s c ≡ false → broken s (t ++ c ∷ u) ≡ false
+unplaced s t u c h = broken-no_candidate s.show.now s.ats.now s.kind (t ++ c ∷ u) (hopeless-unassigned s.show.now s.ats.now s.kind t u c h)
+
+unbroken-at : (s : Search) (t : List ℕ) (c d : ℕ) (a b : Bool) → stands s c ≡ a → stands s d ≡ b
+    → (stands s c ≡ true → stands s d ≡ true → broken s ((t ++ c ∷ []) ++ d ∷ []) ≡ false) → broken s ((t ++ c ∷ []) ++ d ∷ []) ≡ false
+unbroken-at s t c d true true e f h = h e f
+unbroken-at s t c d true false e f h = unplaced s (t ++ c ∷ []) [] d f
+unbroken-at s t c d false b e f h = ap (broken s) (append_assoc t (c ∷ []) (d ∷ [])) ∙ unplaced s t (d ∷ []) c e
+
+-- two carriers in the last roles that are covered where both have frequencies, and of which the first stands in no cell near
+pub unbroken : (s : Search) (p : Pairings) (t : List ℕ) (c d : ℕ) → IsReady s
+    → ((e : ℕ) → e < length s.ats.now → asked s.show.now s.kind e ≤ p.width) → length t + 2 ≡ roles_of s.kind → d < length s.ats.now
+    → (stands s c ≡ true → stands s d ≡ true → Covers p c (pair_value s c d)) → has_bit (mask_near p (partial_of s t)) c ≡ false
+    → is_broken s.show.now s.ats.now s.kind ((t ++ c ∷ []) ++ d ∷ []) ≡ false
+unbroken s p t c d r wide n j covered out =
+    unbroken-at s t c d (stands s c) (stands s d) refl refl
+    (λ e f. broken-far s.show.now s.ats.now s.kind ((t ++ c ∷ []) ++ d ∷ []) (far s p t c d r wide n j (covered e f) out))
+
 -- nothing is broken with a carrier in the last role but one that stands in no cell near
 pub quiet-second : (s : Search) (p : Pairings) (t : List ℕ) (c : ℕ) → IsReady s → HasPairs p s → length t + 2 ≡ roles_of s.kind → c < length s.ats.now → has_bit (mask_near p (partial_of s t)) c ≡ false → broken_in s (t ++ c ∷ []) (tuples 1 (upto (length s.ats.now))) ≡ []
 quiet-second s p t c r h n i out =
     let many = length s.ats.now in
     blank-all _ _ (t ++ c ∷ []) 0 many (λ d j.
-    ap (broken_in s ((t ++ c ∷ []) ++ d ∷ [])) (tuples-zero (upto many)) ∙ found-at_none _ _ ((t ++ c ∷ []) ++ d ∷ []) (broken-far s.show.now s.ats.now s.kind ((t ++ c ∷ []) ++ d ∷ []) (far s p t c d r h.wide n j (h.pairs c d i j) out)))
+    ap (broken_in s ((t ++ c ∷ []) ++ d ∷ [])) (tuples-zero (upto many)) ∙ found-at_none _ _ ((t ++ c ∷ []) ++ d ∷ []) (unbroken s p t c d r h.wide n j (h.pairs c d i j) out))
 
 -- one carrier more in the next role, with which nothing is broken
 pub step-quiet : (s : Search) (t : List ℕ) (k j n i : ℕ) (a b : Tally) → k ≡ j → Extends a b (broken_in s t (begun j (upto n) (upto i))) → broken_in s (t ++ i ∷ []) (tuples k (upto n)) ≡ [] → Extends a b (broken_in s t (begun j (upto n) (upto (i + 1))))

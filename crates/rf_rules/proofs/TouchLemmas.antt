@@ -18,8 +18,8 @@ use Rattle.rf_rules.specs.Searches.{IsReady, broken_in, partial_of}
 use Rattle.rf_rules.specs.Tallies.{Extends}
 use Rattle.rf_rules.specs.Touched.{HasTouching, is_touched, meets, touched_in, touched_of}
 use Rattle.rf_rules.proofs.HopelessLemmas.{closed}
-use Rattle.rf_rules.proofs.PairLemmas.{blank-all, far}
-use Rattle.rf_rules.proofs.SearchLemmas.{broken-far, broken-no_candidate}
+use Rattle.rf_rules.proofs.PairLemmas.{blank-all, unbroken}
+use Rattle.rf_rules.proofs.SearchLemmas.{broken-no_candidate}
 use Rattle.rf_rules.proofs.TallyLemmas.{both-more, none-more, same-more}
 use Rattle.rf_rules.proofs.TupleLemmas.{begun, found-all, found-at_none, found-end, found-more, found-none, found-start, tuples-zero}
 
@@ -135,7 +135,7 @@ either a b c h e = sym (ap (λ z. z || b) e) ∙ h
 
 quiet-pair : (s : Search) (p : Pairings) (mask : ℕ) (t : List ℕ) (c d : ℕ) → IsReady s → HasTouching p s mask → length t + 2 ≡ roles_of s.kind → c < length s.ats.now → d < length s.ats.now → has_bit (mask_near p (partial_of s t)) c ≡ false → (b : Bool) → (has_bit mask c || has_bit mask d) ≡ b → meets mask ((t ++ c ∷ []) ++ d ∷ []) ≡ (has_bit mask c || has_bit mask d) → is_touched s.show.now s.ats.now s.kind mask ((t ++ c ∷ []) ++ d ∷ []) ≡ false
 quiet-pair s p mask t c d r h n i j out true e met =
-    touched-unbroken s.show.now s.ats.now s.kind mask ((t ++ c ∷ []) ++ d ∷ []) (broken-far s.show.now s.ats.now s.kind ((t ++ c ∷ []) ++ d ∷ []) (far s p t c d r h.wide n j (h.pairs c d i j e) out))
+    touched-unbroken s.show.now s.ats.now s.kind mask ((t ++ c ∷ []) ++ d ∷ []) (unbroken s p t c d r h.wide n j (h.pairs c d i j e) out)
 quiet-pair s p mask t c d r h n i j out false e met = touched-not_met s.show.now s.ats.now s.kind mask ((t ++ c ∷ []) ++ d ∷ []) (met ∙ e)
 
 pub quiet-touched : (s : Search) (p : Pairings) (mask : ℕ) (t : List ℕ) (c : ℕ) → IsReady s → HasTouching p s mask → length t + 2 ≡ roles_of s.kind → meets mask t ≡ false → c < length s.ats.now → has_bit (mask_near p (partial_of s t)) c ≡ false → touched_in s mask (t ++ c ∷ []) (tuples 1 (upto (length s.ats.now))) ≡ []

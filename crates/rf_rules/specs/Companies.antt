@@ -1,12 +1,18 @@
 -- What tells whether carriers are together, as masks. Bit c of a mask stands for carrier c.
-use Rattle.std.specs.Prelude.{◌≡◌, ◌<◌, ◌≤◌, ℕ, List, length, map, nat_le, slice_index_or, if◌then◌else◌}
+use Rattle.std.specs.Prelude.{◌≡◌, ◌<◌, ◌≤◌, ℕ, List, length, map, nat_le, Option, Some, None, slice_get, slice_index_or, if◌then◌else◌}
 use Rattle.std.specs.List.{list_any}
+use Rattle.std.specs.Option.{option_map_or}
 use Rattle.rf_zones.specs.Masks.{has_bit, has_bits}
 use Rattle.rf_zones.specs.Slices.{share_minute}
 use Rattle.rf_show.specs.Show.{ShowData}
+use Rattle.rf_show.specs.declared.carrier.Carrier.{Carrier}
 use Rattle.rf_show.specs.Limits.{most_carriers}
 use Rattle.rf_show.specs.Query.{meet_at}
 use Rattle.rf_rules.specs.declared.company.Company.{Company}
+
+-- the zone of a carrier
+abbrev pub zone_at : List Carrier → ℕ → Option (List ℕ)
+zone_at carriers c = option_map_or (λ d. Some d.zone) (slice_get carriers c) None
 
 -- the carriers of a mask are those that may be together with a carrier in a set of so many
 abbrev pub Meets : ShowData → ℕ → ℕ → ℕ → Type 0

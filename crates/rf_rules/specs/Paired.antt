@@ -1,9 +1,9 @@
 -- Which carriers can take the last role but one, looked up by the form over the roles before it.
-use Rattle.std.specs.Prelude.{◌≡◌, ◌<◌, ◌≤◌, ◌+◌, ◌-◌, ◌/◌, ◌%◌, ◌+ℤ◌, ◌*ℤ◌, ℕ, ℤ, pos, unsigned_abs, true, length, slice_index_or}
+use Rattle.std.specs.Prelude.{◌≡◌, ◌<◌, ◌≤◌, ◌+◌, ◌-◌, ◌/◌, ◌%◌, ◌+ℤ◌, ◌*ℤ◌, ℕ, ℤ, pos, unsigned_abs, Bool, true, is_some, length, slice_index_or}
 use Rattle.rf_terms.specs.Kinds.{coefficients_of, roles_of}
 use Rattle.rf_zones.specs.Masks.{has_bit}
 use Rattle.rf_show.specs.Query.{asked}
-use Rattle.rf_rules.specs.Instances.{khz_in}
+use Rattle.rf_rules.specs.Instances.{at_in, khz_in}
 use Rattle.rf_rules.specs.Searches.{lane_of}
 use Rattle.rf_rules.specs.declared.pairings.Pairings.{Pairings}
 use Rattle.rf_rules.specs.declared.search.Search.{Search}
@@ -29,8 +29,12 @@ Covers p carrier value = (product : ℤ) → unsigned_abs product ≤ 640000000 
 abbrev pub pair_value : Search → ℕ → ℕ → ℤ
 pair_value s c d = (slice_index_or (coefficients_of s.kind) (roles_of s.kind - 2) (pos 0) *ℤ pos (khz_in s.ats.now c)) +ℤ (lane_of s.show.now s.ats.now s.kind d).term
 
--- a width is no less than any margin, and each pair of carriers is covered
+-- a carrier has a frequency
+abbrev pub stands : Search → ℕ → Bool
+stands s c = is_some (at_in s.ats.now c)
+
+-- a width is no less than any margin, and each pair of carriers that have frequencies is covered
 pub record HasPairs (p : Pairings) (s : Search) : Type 0 where
   pub form : IsPairings p
   pub wide : (c : ℕ) → c < length s.ats.now → asked s.show.now s.kind c ≤ p.width
-  pub pairs : (c d : ℕ) → c < length s.ats.now → d < length s.ats.now → Covers p c (pair_value s c d)
+  pub pairs : (c d : ℕ) → c < length s.ats.now → d < length s.ats.now → stands s c ≡ true → stands s d ≡ true → Covers p c (pair_value s c d)

@@ -9,7 +9,7 @@ use Rattle.rf_show.specs.Query.{asked}
 use Rattle.rf_rules.specs.Tuples.{found_in, tuples, upto}
 use Rattle.rf_rules.specs.Instances.{is_broken}
 use Rattle.rf_rules.specs.Conflicts.{conflict_of}
-use Rattle.rf_rules.specs.Paired.{Covers, HasPairs, IsPairings, pair_value}
+use Rattle.rf_rules.specs.Paired.{Covers, HasPairs, IsPairings, pair_value, stands}
 use Rattle.rf_rules.specs.declared.conflict.Conflict.{Conflict}
 use Rattle.rf_rules.specs.declared.pairings.Pairings.{Pairings}
 use Rattle.rf_rules.specs.declared.search.Search.{Search}
@@ -34,11 +34,11 @@ touched_of show ats kind mask =
 abbrev pub touched_in : Search → ℕ → List ℕ → List (List ℕ) → List Conflict
 touched_in s mask t us = found_in (conflict_of s.show.now s.ats.now s.kind) (is_touched s.show.now s.ats.now s.kind mask) t us
 
--- pairs of carriers that have one of a mask are covered
+-- pairs of carriers that have frequencies, with one of a mask, are covered
 pub record HasTouching (p : Pairings) (s : Search) (mask : ℕ) : Type 0 where
   pub form : IsPairings p
   pub wide : (c : ℕ) → c < length s.ats.now → asked s.show.now s.kind c ≤ p.width
-  pub pairs : (c d : ℕ) → c < length s.ats.now → d < length s.ats.now → (has_bit mask c || has_bit mask d) ≡ true → Covers p c (pair_value s c d)
+  pub pairs : (c d : ℕ) → c < length s.ats.now → d < length s.ats.now → (has_bit mask c || has_bit mask d) ≡ true → stands s c ≡ true → stands s d ≡ true → Covers p c (pair_value s c d)
 
 pub record IsTouch (touch : Touch) (s : Search) : Type 0 where
   pub all : HasPairs touch.all s

@@ -1,14 +1,15 @@
 //! Who is together with whom in a show, by masks that are made once.
 
-ghost use Rattle.std.specs.Prelude.{◌≡◌, ◌<◌, ◌≤◌, ◌∷◌, ◌++◌, [], ℕ, All, IfOk, length, slice_index_or};
+ghost use Rattle.std.specs.Prelude.{◌≡◌, ◌<◌, ◌≤◌, ◌∷◌, ◌++◌, [], ℕ, All, IfOk, IfSome, length, slice_index_or};
+ghost use Rattle.std.specs.Bool.{OnTrue};
 ghost use Rattle.std.specs.List.{list_all, list_any};
 ghost use Rattle.rf_zones.specs.Masks.{has_bit, has_bits};
 ghost use Rattle.rf_show.specs.Limits.{most_carriers};
 ghost use Rattle.rf_show.specs.Query.{are_joined, meet_at};
-ghost use Rattle.rf_rules.specs.Companies.{IsCompany, Meets, masks_of};
+ghost use Rattle.rf_rules.specs.Companies.{IsCompany, Meets, masks_of, zone_at};
 
 use rf_base::NoMemory;
-use rf_show::{Show, meeting_is_mutual};
+use rf_show::{Carrier, Show, meeting_is_mutual};
 use rf_zones::mask::{all, both, either, has_all, none};
 use rf_zones::{Mask, Slices};
 use std::alloc::Global;
@@ -112,7 +113,32 @@ fn make_masks(show: &Show, size: usize) -> [Mask; Show::MAX_CARRIERS]
 {
     let mut masks = [none(); Show::MAX_CARRIERS];
     for a in 0..show.carriers().len() {
+        if let Some(b) = neighbour(show, a) {
+            masks[a] = masks[b];
+            continue;
+        }
         masks[a] = show.meeters(size, a);
     }
     masks
+}
+
+/// A carrier before this one that is in the same zone. It may be together with the same carriers.
+fn neighbour(show: &Show, a: usize) -> Option<usize>
+    requires { a < length show.now.carriers }
+    ensures before { IfSome result (λ b. b < a) }
+    ensures zone { IfSome result (λ b. zone_at show.now.carriers b ≡ zone_at show.now.carriers a) }
+{
+    let carriers = show.carriers();
+    for b in 0..a {
+        if same_zone(&carriers[b], &carriers[a]) {
+            return Some(b);
+        }
+    }
+    None
+}
+
+fn same_zone(a: &Carrier, b: &Carrier) -> bool
+    ensures { OnTrue result (a.now.zone ≡ b.now.zone) }
+{
+    a.zone == b.zone
 }

@@ -1,9 +1,9 @@
 //! Which carriers may stand last but one, by the value of the form so far.
 
-ghost use Rattle.std.specs.Prelude.{◌≡◌, ◌<◌, ◌≤◌, ◌%◌, ◌||◌, ◌+ℤ◌, ℕ, ℤ, true, false, IfOk, length, slice_index_or, unsigned_abs};
+ghost use Rattle.std.specs.Prelude.{◌≡◌, ◌<◌, ◌≤◌, ◌%◌, ◌&&◌, ◌||◌, ◌+ℤ◌, ℕ, ℤ, true, false, IfOk, length, slice_index_or, unsigned_abs};
 ghost use Rattle.std.specs.Bool.{OnTrue};
 ghost use Rattle.rf_show.specs.Limits.{most_carriers};
-ghost use Rattle.rf_zones.specs.Masks.{has_bit};
+ghost use Rattle.rf_zones.specs.Masks.{has_bit, mask_width};
 ghost use Rattle.rf_rules.specs.Paired as paired;
 ghost use Rattle.rf_rules.specs.Paired.{Covers, HasPairs, IsPairings, mask_near, pair_value};
 ghost use Rattle.rf_rules.specs.Searches.{IsReady};
@@ -15,8 +15,11 @@ use crate::lane::Lane;
 use crate::search::Search;
 use rf_base::NoMemory;
 use rf_zones::Mask;
-use rf_zones::mask::{has, none, with};
+use rf_zones::mask::{all, both, has, none, with};
 use std::alloc::Global;
+
+// How many cells there are for each pair.
+const CELLS: usize = 4;
 
 /// The carriers that can take the last role but one of a kind, by what the form over the roles before is: there are cells of
 /// values, each as wide as the widest margin, and a carrier stands in those in which, with some carrier in the last role, the
@@ -34,14 +37,7 @@ impl Pairings {
         requires few { length search.now.ats.now ≤ most_carriers }
         ensures { IfOk result (λ pairings. HasPairs pairings search.now) }
     {
-        let mut pairings = Pairings {
-            width: u64::from(widest(search.lanes)),
-            cells: vec![in alloc; none(); room(search.ats.len())]?,
-        };
-        for first in 0..search.ats.len() {
-            pairings.add_all(search, first);
-        }
-        Ok(pairings)
+        Pairings::touching(alloc, search, all())
     }
 
     /// The pairs of a search's carriers of which one is in a mask.
@@ -50,14 +46,31 @@ impl Pairings {
         requires few { length search.now.ats.now ≤ most_carriers }
         ensures { IfOk result (λ pairings. HasTouching pairings search.now mask) }
     {
+        let standing = search.standing();
+        let changed = both(standing, mask);
         let mut pairings = Pairings {
             width: u64::from(widest(search.lanes)),
-            cells: vec![in alloc; none(); room(search.ats.len())]?,
+            cells: vec![in alloc; none(); room(many(standing), many(changed))]?,
         };
         for first in 0..search.ats.len() {
-            pairings.add_touching(search, first, mask);
+            if !has(standing, first) {
+                continue;
+            }
+            pairings.add_all(search, first, partners(mask, first, standing, changed));
         }
         Ok(pairings)
+    }
+
+    /// No pair is left out: there is one cell, and all carriers are in it.
+    pub fn full(alloc: Global, search: &Search) -> Result<Pairings, NoMemory>
+        requires ready { IsReady search.now }
+        requires few { length search.now.ats.now ≤ most_carriers }
+        ensures { IfOk result (λ pairings. HasPairs pairings search.now) }
+    {
+        Ok(Pairings {
+            width: u64::from(widest(search.lanes)),
+            cells: vec![in alloc; all(); 1]?,
+        })
     }
 
     /// The carriers that can be next where the form over the first roles is this.
@@ -70,41 +83,20 @@ impl Pairings {
         self.cells[self.index(cell)]
     }
 
-    // Adds a carrier with each carrier in the last role.
-    fn add_all(&mut self, search: &Search, first: usize)
+    // Adds a carrier with each carrier of a mask in the last role.
+    fn add_all(&mut self, search: &Search, first: usize, lasts: Mask)
         requires form { IsPairings self.old }
         requires ready { IsReady search.now }
         requires few { length search.now.ats.now ≤ most_carriers }
         requires there { first < length search.now.ats.now }
         ensures form { IsPairings self.new }
         ensures width { self.new.width ≡ self.old.width }
-        ensures covers { (d : ℕ) → d < length search.now.ats.now → Covers self.new first (pair_value search.now first d) }
+        ensures covers { (d : ℕ) → d < length search.now.ats.now → has_bit lasts d ≡ true → Covers self.new first (pair_value search.now first d) }
         ensures keeps { (other : ℕ) (value : ℤ) → Covers self.old other value → Covers self.new other value }
     {
         let own = search.second_term(first);
         for last in 0..search.ats.len() {
-            self.add(first, sum(own, search.lanes[last].term));
-        }
-    }
-
-    // Adds a carrier with each carrier in the last role, where one of them is in a mask.
-    fn add_touching(&mut self, search: &Search, first: usize, mask: Mask)
-        requires form { IsPairings self.old }
-        requires ready { IsReady search.now }
-        requires few { length search.now.ats.now ≤ most_carriers }
-        requires there { first < length search.now.ats.now }
-        ensures form { IsPairings self.new }
-        ensures width { self.new.width ≡ self.old.width }
-        ensures covers { (d : ℕ) → d < length search.now.ats.now → (has_bit mask first || has_bit mask d) ≡ true → Covers self.new first (pair_value search.now first d) }
-        ensures keeps { (other : ℕ) (value : ℤ) → Covers self.old other value → Covers self.new other value }
-    {
-        if has(mask, first) {
-            self.add_all(search, first);
-            return;
-        }
-        let own = search.second_term(first);
-        for last in 0..search.ats.len() {
-            if !has(mask, last) {
+            if !has(lasts, last) {
                 continue;
             }
             self.add(first, sum(own, search.lanes[last].term));
@@ -149,12 +141,32 @@ impl Pairings {
     }
 }
 
-// How many cells there are for so many carriers: some for each pair.
-fn room(carriers: usize) -> usize
-    requires { carriers ≤ most_carriers }
+// The carriers that stand and make a pair with a carrier of which one is in a mask. `changed` has those that stand and are in it.
+fn partners(mask: Mask, first: usize, standing: Mask, changed: Mask) -> Mask
+    requires first { first < most_carriers }
+    requires changed { (c : ℕ) → has_bit changed c ≡ (has_bit standing c && has_bit mask c) }
+    ensures { (c : ℕ) → has_bit result c ≡ (has_bit standing c && (has_bit mask first || has_bit mask c)) }
+{
+    if has(mask, first) {
+        return standing;
+    }
+    changed
+}
+
+// How many carriers a mask has.
+fn many(mask: Mask) -> usize
+    ensures { result ≤ mask_width }
+{
+    mask.count_ones() as usize
+}
+
+// How many cells there are for so many carriers that stand, of which so many changed: some for each pair.
+fn room(standing: usize, changed: usize) -> usize
+    requires standing { standing ≤ mask_width }
+    requires changed { changed ≤ mask_width }
     ensures { 0 < result }
 {
-    carriers * carriers * 8 + 1
+    standing * standing.min(2 * changed) * CELLS + 1
 }
 
 // The most that a carrier asks, and at least 1.

@@ -133,8 +133,15 @@ fn kept_of(
 fn is_kept(kind: Kind, mask: Mask, conflict: &Conflict) -> bool
     ensures { result ≡ renewed.is_kept kind mask conflict.now }
 {
+    is_of(kind, conflict) && !has_changed(kind, mask, conflict)
+}
+
+/// A conflict that is a broken instance of a kind has a carrier of the mask.
+fn has_changed(kind: Kind, mask: Mask, conflict: &Conflict) -> bool
+    ensures { result ≡ touched.meets mask (renewed.roles_in kind conflict.now) }
+{
     let (roles, many) = roles_in(kind, conflict);
-    is_of(kind, conflict) && !meets(mask, &roles[..many])
+    meets(mask, &roles[..many])
 }
 
 fn is_of(kind: Kind, conflict: &Conflict) -> bool

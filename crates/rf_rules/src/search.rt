@@ -1,10 +1,10 @@
 //! The search for all broken instances of one kind, role by role.
 
-ghost use Rattle.std.specs.Prelude.{◌≡◌, ◌+◌, ◌-◌, ◌<◌, ◌≤◌, ◌++◌, ◌∷◌, [], OnOk, length, take, ℕ, List, true, false, pos, replicate, slice_index_or, unsigned_abs, ◌*ℤ◌};
+ghost use Rattle.std.specs.Prelude.{◌≡◌, ◌+◌, ◌-◌, ◌<◌, ◌≤◌, ◌++◌, ◌∷◌, [], OnOk, length, take, ℕ, List, true, false, pos, is_some, replicate, slice_index_or, unsigned_abs, ◌*ℤ◌};
 ghost use Rattle.std.specs.Bool.{OnTrue};
 ghost use Rattle.std.specs.List.{list_all};
 ghost use Rattle.rf_terms.specs.Kinds.{coefficients_of, roles_of};
-ghost use Rattle.rf_rules.specs.Instances.{AreCarriers, are_assigned, distance_of, is_candidate, is_open, khz_in, ordered_roles};
+ghost use Rattle.rf_rules.specs.Instances.{AreCarriers, are_assigned, at_in, distance_of, is_candidate, is_open, khz_in, ordered_roles};
 ghost use Rattle.rf_rules.specs.Conflicts.{conflict_as};
 ghost use Rattle.rf_rules.specs.Tallies.{Extends};
 ghost use Rattle.rf_rules.specs.Searches.{IsReady, floor_of, broken_in, found, partial_of};
@@ -27,7 +27,7 @@ use rf_base::{Khz, NoMemory};
 use rf_show::Show;
 use rf_terms::{Kind, has_victim};
 use rf_zones::Mask;
-use rf_zones::mask::{all, has};
+use rf_zones::mask::{all, has, none, with};
 
 /// The search for the broken instances of one kind.
 #[derive(Drop)]
@@ -290,6 +290,21 @@ impl Search<'_> {
         ensures bound { unsigned_abs result ≤ 10000000 }
     {
         khz_of(at(self.ats, carrier))
+    }
+
+    /// The carriers that have frequencies.
+    pub fn standing(&self) -> Mask
+        requires { length self.now.ats.now ≤ most_carriers }
+        ensures { (c : ℕ) → c < length self.now.ats.now → has_bit result c ≡ is_some (at_in self.now.ats.now c) }
+    {
+        let mut mask = none();
+        for carrier in 0..self.ats.len() {
+            if at(self.ats, carrier).is_none() {
+                continue;
+            }
+            mask = with(mask, carrier);
+        }
+        mask
     }
 
     /// No instance of assigned carriers begins with these.

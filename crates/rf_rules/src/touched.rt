@@ -6,6 +6,7 @@ ghost use Rattle.rf_zones.specs.Masks.{has_bit};
 ghost use Rattle.rf_show.specs.Limits.{most_carriers};
 ghost use Rattle.rf_rules.specs.Companies.{IsCompany};
 ghost use Rattle.rf_rules.specs.Instances.{AreCarriers};
+ghost use Rattle.rf_rules.specs.Paired.{HasPairs};
 ghost use Rattle.rf_rules.specs.Searches.{IsReady, partial_of};
 ghost use Rattle.rf_rules.specs.Tallies.{Extends};
 ghost use Rattle.rf_rules.specs.Touched.{IsTouch, touched_in, touched_of};
@@ -59,10 +60,22 @@ pub fn add_touched(
     };
     let touch = Touch {
         mask,
-        all: Pairings::of(alloc, &search)?,
+        all: behind_one(alloc, &search)?,
         some: Pairings::touching(alloc, &search, mask)?,
     };
     search.extend_touched(company, &touch, [0; 4], 0, 0, tally)
+}
+
+/// The pairs of carriers that may go on behind a changed one. Where a kind has three roles, these are few enough to be tried.
+fn behind_one(alloc: Global, search: &Search) -> Result<Pairings, NoMemory>
+    requires ready { IsReady search.now }
+    requires few { length search.now.ats.now ≤ most_carriers }
+    ensures { IfOk result (λ pairings. HasPairs pairings search.now) }
+{
+    if search.coefficients.len() <= 3 {
+        return Pairings::full(alloc, search);
+    }
+    Pairings::of(alloc, search)
 }
 
 impl Search<'_> {

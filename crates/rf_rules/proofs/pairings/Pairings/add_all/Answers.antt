@@ -1,6 +1,7 @@
-use Rattle.std.proofs.Common.{◌≡◌, ◌-◌, pos, ◌*ℤ◌, get_or, unsigned_abs, ap, ◌∙◌, arith, to_z, of_z, w64, inl, inr}
-use Rattle.std.proofs.lemmas.Bool.{cases_lt}
+use Rattle.std.proofs.Common.{◌≡◌, ◌-◌, pos, ◌*ℤ◌, get_or, unsigned_abs, true, ap, sym, ◌∙◌, arith, to_z, of_z, w64, inl, inr}
+use Rattle.std.proofs.lemmas.Bool.{cases_lt, true≢false}
 use Rattle.std.proofs.lemmas.Int.{to_z-of_z}
+use Rattle.rf_zones.specs.Masks.{has_bit}
 use Rattle.rf_terms.specs.Kinds.{coefficients_of, roles_of}
 use Rattle.rf_rules.specs.Instances.{khz_in}
 use Rattle.rf_rules.specs.Paired.{Covers, pair_value}
@@ -48,9 +49,23 @@ loop-last-preserved c =
     record {
       form = c.add.ensures.form;
       width = c.add.ensures.width ∙ c.loop-last.invariant.width;
-      covers = λ d h. elim (cases_lt d c.loop-last.last) [
-        | inl p ↦ c.add.ensures.keeps c.args.first (pair_value s c.args.first d) (c.loop-last.invariant.covers d p)
+      covers = λ d h some. elim (cases_lt d c.loop-last.last) [
+        | inl p ↦ c.add.ensures.keeps c.args.first (pair_value s c.args.first d) (c.loop-last.invariant.covers d p some)
         | inr p ↦ let e : d ≡ c.loop-last.last = omega (arith, p, h) in rw e now
       ];
       keeps = λ other value h. c.add.ensures.keeps other value (c.loop-last.invariant.keeps other value h);
+    }
+
+pub loop-last-preserved-then-not-has : goal.loop-last-preserved-then-not-has
+loop-last-preserved-then-not-has c =
+    record {
+      form = c.loop-last.invariant.form;
+      width = c.loop-last.invariant.width;
+      covers = λ d h some. elim (cases_lt d c.loop-last.last) [
+        | inl p ↦ c.loop-last.invariant.covers d p some
+        | inr p ↦ let e : d ≡ c.loop-last.last = omega (arith, p, h) in
+            let there : has_bit c.args.lasts c.loop-last.last ≡ true = rw e at some in
+            absurd (true≢false (sym there ∙ sym c.has.ensures ∙ c.if-not-has.true))
+      ];
+      keeps = c.loop-last.invariant.keeps;
     }

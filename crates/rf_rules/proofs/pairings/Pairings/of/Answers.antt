@@ -1,30 +1,23 @@
-use Rattle.std.proofs.Common.{◌≡◌, pos, ap, arith, inl, inr}
-use Rattle.std.proofs.lemmas.Bool.{cases_lt}
-use Rattle.rf_rules.specs.Paired.{pair_value}
-use Rattle.rf_rules.specs.declared.lane.Lane.{Lane}
-use Rattle.rf_rules.proofs.ReadyLemmas.{ready-lane, ready-lanes}
+use Rattle.std.proofs.Common.{◌≡◌, ◌<◌, ℕ, true, length, ap, arith}
+use Rattle.std.specs.Prelude.{Result, Ok, Err, IfOk, ◌||◌}
+use Rattle.rf_zones.specs.Masks.{has_bit}
+use Rattle.rf_rules.specs.declared.pairings.Pairings.{Pairings}
+use Rattle.rf_rules.specs.declared.search.Search.{Search}
+use Rattle.rf_rules.specs.Paired.{HasPairs}
+use Rattle.rf_rules.specs.Touched.{HasTouching}
 use Rattle.rf_rules.proofs.pairings.Pairings.of.Goals as goal
 
-abbrev no-lane : Lane
-no-lane = record { term = pos 0; needs = 0 }
+-- pairs with one of all carriers are all pairs
+every : (p : Pairings) (s : Search) (mask : ℕ) → ((c : ℕ) → c < length s.ats.now → has_bit mask c ≡ true) → HasTouching p s mask → HasPairs p s
+every p s mask h t = record { form = t.form; wide = t.wide; pairs = λ c d i j. t.pairs c d i j (ap (λ b. b || has_bit mask d) (h c i)) }
 
-pub loop-first-init : goal.loop-first-init
-loop-first-init c =
-    let s = c.args.search.now in
-    record {
-      form = record { wide = omega (arith, c.from.ensures, c.widest.ensures.some); some = omega (arith, c.in_ok-vec.ensures.len, c.room.ensures) };
-      wide = λ k h. omega (arith, c.widest.ensures.wide k no-lane (omega (arith, h, ready-lanes s c.requires.ready)), ap (λ (l : Lane). l.needs) (ready-lane s k no-lane c.requires.ready h), c.from.ensures);
-      pairs = λ k d h. absurd (omega (arith, h));
-    }
+where-ok : {A E : Type 0} (r : Result A E) (P Q : A → Type 0) → ((a : A) → P a → Q a) → IfOk r P → IfOk r Q
+where-ok (Ok a) P Q f h = f a h
+where-ok (Err e) P Q f h = tt
 
-pub loop-first-preserved : goal.loop-first-preserved
-loop-first-preserved c =
+pub returns : goal.returns
+returns c =
     let s = c.args.search.now in
-    record {
-      form = c.add_all.ensures.form;
-      wide = λ k h. omega (arith, c.loop-first.invariant.wide k h, c.add_all.ensures.width);
-      pairs = λ k d h q. elim (cases_lt k c.loop-first.first) [
-        | inl p ↦ c.add_all.ensures.keeps k (pair_value s k d) (c.loop-first.invariant.pairs k d p q)
-        | inr p ↦ let e : k ≡ c.loop-first.first = omega (arith, p, h) in rw e (c.add_all.ensures.covers d q)
-      ];
-    }
+    where-ok c.touching.result _ _
+    (λ p. every p s c.all.result (λ k h. c.all.ensures k (omega (arith, h, c.requires.few))))
+    c.touching.ensures

@@ -1,8 +1,8 @@
-use Rattle.std.proofs.Common.{◌≡◌, true, pos, ap, arith, inl, inr}
-use Rattle.std.proofs.lemmas.Bool.{cases_lt}
-use Rattle.std.specs.Prelude.{◌||◌}
+use Rattle.std.proofs.Common.{◌≡◌, true, pos, ap, sym, ◌∙◌, arith, inl, inr}
+use Rattle.std.proofs.lemmas.Bool.{cases_lt, true≢false}
+use Rattle.std.specs.Prelude.{◌&&◌, ◌||◌}
 use Rattle.rf_zones.specs.Masks.{has_bit}
-use Rattle.rf_rules.specs.Paired.{pair_value}
+use Rattle.rf_rules.specs.Paired.{pair_value, stands}
 use Rattle.rf_rules.specs.declared.lane.Lane.{Lane}
 use Rattle.rf_rules.proofs.ReadyLemmas.{ready-lane, ready-lanes}
 use Rattle.rf_rules.proofs.pairings.Pairings.touching.Goals as goal
@@ -22,11 +22,33 @@ loop-first-init c =
 pub loop-first-preserved : goal.loop-first-preserved
 loop-first-preserved c =
     let s = c.args.search.now in
+    let i = c.loop-first.first in
     record {
-      form = c.add_touching.ensures.form;
-      wide = λ k h. omega (arith, c.loop-first.invariant.wide k h, c.add_touching.ensures.width);
-      pairs = λ k d h q some. elim (cases_lt k c.loop-first.first) [
-        | inl p ↦ c.add_touching.ensures.keeps k (pair_value s k d) (c.loop-first.invariant.pairs k d p q some)
-        | inr p ↦ let e : k ≡ c.loop-first.first = omega (arith, p, h) in let there : (has_bit c.args.mask c.loop-first.first || has_bit c.args.mask d) ≡ true = rw e at some in rw e (c.add_touching.ensures.covers d q there)
+      form = c.add_all.ensures.form;
+      wide = λ k h. omega (arith, c.loop-first.invariant.wide k h, c.add_all.ensures.width);
+      pairs = λ k d h q some at there. elim (cases_lt k i) [
+        | inl p ↦ c.add_all.ensures.keeps k (pair_value s k d) (c.loop-first.invariant.pairs k d p q some at there)
+        | inr p ↦
+            let e : k ≡ i = omega (arith, p, h) in
+            let one : (has_bit c.args.mask i || has_bit c.args.mask d) ≡ true = rw e at some in
+            let mate : has_bit c.partners.result d ≡ true =
+            c.partners.ensures d ∙ ap (λ b. b && (has_bit c.args.mask i || has_bit c.args.mask d)) (c.standing-standing.ensures d q ∙ there) ∙ one in
+            rw e (c.add_all.ensures.covers d q mate)
+      ];
+    }
+
+pub loop-first-preserved-then-not-has : goal.loop-first-preserved-then-not-has
+loop-first-preserved-then-not-has c =
+    let s = c.args.search.now in
+    let i = c.loop-first.first in
+    record {
+      form = c.loop-first.invariant.form;
+      wide = c.loop-first.invariant.wide;
+      pairs = λ k d h q some at there. elim (cases_lt k i) [
+        | inl p ↦ c.loop-first.invariant.pairs k d p q some at there
+        | inr p ↦
+            let e : k ≡ i = omega (arith, p, h) in
+            let placed : stands s i ≡ true = rw e at at in
+            absurd (true≢false (sym placed ∙ sym (c.standing-standing.ensures i c.loop-first-test.true) ∙ sym c.has.ensures ∙ c.if-not-has.true))
       ];
     }
