@@ -84,12 +84,3 @@ padded_whole digits n h some few =
     let these : list_all is_ascii_digit digits ≡ true = search rules in
     let size : length (take n digits ++ replicate (n - length digits) 48) ≡ n = grind (arith, common_steps) in
     whole_from (take n digits ++ replicate (n - length digits) 48) (all_padded n (n - length digits) digits these) (omega arith) (omega arith)
-
--- a number begins with a digit
-pub number_first : (c : ℕ) (cs : List ℕ) (n : ℕ) → number_of (c ∷ cs) ≡ Some n → (c == 45) ≡ false
-unfolding number_of is_whole is_digits
-number_first c cs n h = grind (arith, nat_tests)
-
-pub no_number : (n : ℕ) → number_of [] ≡ Some n → ⊥
-unfolding number_of is_whole is_digits
-no_number n h = cc

@@ -105,12 +105,6 @@ idle b c gone none = fun_ext λ d. fun_ext λ k. elim (cases_Bool (gone k)) [
     ne : (d c : ℕ) → (d ≡ c → ⊥) → (d == c) ≡ false
     ne d c other = elim (cases_Bool (d == c)) [ inl at ↦ absurd (other (eqb-true d c at)) | inr away ↦ away ]
 
--- nothing is left in the range
-pub none_struck : (ss : List (List Bool)) (t : Trace) (c lo hi : ℕ) → has ss ≡ has_of t.counts t.entries
-    → ((k : ℕ) → lo ≤ k → k ≤ hi → has ss c k ≡ false) → has_of t.counts t.entries ≡ sets.without (has_of t.counts t.entries) c (between lo hi)
-none_struck ss t c lo hi is none = idle (has_of t.counts t.entries) c (between lo hi) (λ k inside.
-    let ends = ends_of lo hi k inside in sym (ap (λ f. f c k) is) ∙ none k ends.0 ends.1)
-
 pub carrier_in : (counts : List ℕ) (c k : ℕ) → k < size_of counts c → c < length counts
 carrier_in [] c k low = absurd (omega arith)
 carrier_in (n ∷ ns) zero k low = omega arith
@@ -118,68 +112,8 @@ carrier_in (n ∷ ns) (suc c) k low = omega (arith, carrier_in ns c k low)
 
 -- ---- what is left
 
-struck_keeps : (b : Box) (c : ℕ) (gone : ℕ → Bool) (d k : ℕ) → sets.without b c gone d k ≡ true → b d k ≡ true
-struck_keeps b c gone d k here = (and_parts (b d k) _ here).0
-
-struck_none : (b : Box) (c : ℕ) (gone : ℕ → Bool) (k : ℕ) → sets.without b c gone c k ≡ true → gone k ≡ false
-struck_none b c gone k here = elim (cases_Bool (gone k)) [
-  | inr away ↦ away
-  | inl goes ↦ absurd (true≢false (sym here ∙ without_gone b c gone k goes))
-]
-
-struck_stays : (b : Box) (c : ℕ) (gone : ℕ → Bool) (d k : ℕ) → b d k ≡ true → gone k ≡ false → sets.without b c gone d k ≡ true
-struck_stays b c gone d k here stays = and_from (b d k) _ here (ap (λ (t : Bool). not ((d == c) && t)) stays ∙ left_in (d == c))
-  where
-    left_in : (t : Bool) → not (t && false) ≡ true
-    left_in true = refl
-    left_in false = refl
-
--- the removal of what a condition `in` asks
-pub taken_inside : (b : Box) (cond : Cond) → cond.inside ≡ true → IsTaken b (sets.without b cond.carrier (between cond.lo cond.hi)) cond
-taken_inside b cond in_ = record {
-  fewer = struck_keeps b cond.carrier (between cond.lo cond.hi);
-  stays = λ k here unmet. struck_stays b cond.carrier (between cond.lo cond.hi) cond.carrier k here (sym (inside_is cond k in_) ∙ unmet);
-  none = λ k here. inside_is cond k in_ ∙ struck_none b cond.carrier (between cond.lo cond.hi) k here;
-}
-
-pub part_same : (b : Box) (cond : Cond) → IsPart b b cond
-part_same b cond = record { fewer = λ c k here. here; stays = λ k here unmet. here }
-
--- the removal of a range of indices that meet the condition
-pub part_struck : (b : Box) (cond : Cond) (lo hi : ℕ) → ((k : ℕ) → between lo hi k ≡ true → is_met cond k ≡ true) → IsPart b (sets.without b cond.carrier (between lo hi)) cond
-part_struck b cond lo hi met = record {
-  fewer = struck_keeps b cond.carrier (between lo hi);
-  stays = λ k here unmet. struck_stays b cond.carrier (between lo hi) cond.carrier k here (elim (cases_Bool (between lo hi k)) [
-    | inr away ↦ away
-    | inl within ↦ absurd (true≢false (sym (met k within) ∙ unmet))
-  ]);
-}
-
 pub struck_gone : (b new : Box) (c lo hi : ℕ) → new ≡ sets.without b c (between lo hi) → (k : ℕ) → lo ≤ k → k ≤ hi → new c k ≡ false
 struck_gone b new c lo hi is k from to = ap (λ (f : Box). f c k) is ∙ without_gone b c (between lo hi) k (is_between lo hi k from to)
-
-pub part_by : (b new : Box) (cond : Cond) (lo hi : ℕ) → new ≡ sets.without b cond.carrier (between lo hi) → ((k : ℕ) → between lo hi k ≡ true → is_met cond k ≡ true) → IsPart b new cond
-part_by b new cond lo hi is met = subst (λ (x : Box). IsPart b x cond) (sym is) (part_struck b cond lo hi met)
-
--- both sides are gone
-pub taken_outside : (old mid new : Box) (cond : Cond) → cond.inside ≡ false → IsPart old mid cond → IsPart mid new cond
-    → ((k : ℕ) → k < cond.lo → mid cond.carrier k ≡ false) → ((k : ℕ) → cond.hi < k → new cond.carrier k ≡ false) → IsTaken old new cond
-taken_outside old mid new cond out first second below above = record {
-  fewer = λ c k here. first.fewer c k (second.fewer c k here);
-  stays = λ k here unmet. second.stays k (first.stays k here unmet) unmet;
-  none = λ k here. outside_is cond k out ∙ ap not (is_between cond.lo cond.hi k
-      (elim (cases_lt k cond.lo) [
-        | inl low ↦ absurd (true≢false (sym (second.fewer cond.carrier k here) ∙ below k low))
-        | inr high ↦ omega arith
-      ])
-      (elim (cases_lt cond.hi k) [
-        | inl high ↦ absurd (true≢false (sym here ∙ above k high))
-        | inr low ↦ omega arith
-      ]));
-}
-
-pub taken_by : (b new : Box) (cond : Cond) → cond.inside ≡ true → new ≡ sets.without b cond.carrier (between cond.lo cond.hi) → IsTaken b new cond
-taken_by b new cond in_ is = subst (λ (x : Box). IsTaken b x cond) (sym is) (taken_inside b cond in_)
 
 -- the ranges that a condition asks
 pub met_below : (cond : Cond) → cond.inside ≡ false → (k : ℕ) → between 0 (cond.lo - 1) k ≡ true → (cond.lo ≡ 0 → ⊥) → is_met cond k ≡ true

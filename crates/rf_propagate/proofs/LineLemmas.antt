@@ -135,9 +135,6 @@ pub record IsClearTo (old now : List (List Bool)) (upto : ℕ) : Type 0 where
   pub sized : sizes now ≡ sizes old
   pub none : (c k : ℕ) → c < upto → has now c k ≡ false
 
-pub clear_none : (old : List (List Bool)) → IsClearTo old old 0
-clear_none old = record { sized = refl; none = λ c k low. absurd (omega arith) }
-
 without_kept : (b : Box) (c : ℕ) (gone : ℕ → Bool) (d k : ℕ) → b d k ≡ false → sets.without b c gone d k ≡ false
 without_kept b c gone d k off = ap (λ (t : Bool). t && not ((d == c) && gone k)) off
 
@@ -182,15 +179,6 @@ clear_same old mid c size so is none = record {
     here : (k : ℕ) → (has mid c k ≡ true) ⊎ (has mid c k ≡ false) → has mid c k ≡ false
     here k (inr off) = off
     here k (inl on) = absurd (let low = low_in mid c k on in omega (arith, low, is))
-
-pub clear_all : (old now : List (List Bool)) (upto : ℕ) → IsClearTo old now upto → length now ≤ upto → has now ≡ nothing
-clear_all old now upto so all = fun_ext (λ c. fun_ext (λ k. here c k (cases_Bool (has now c k))))
-  where
-    here : (c k : ℕ) → (has now c k ≡ true) ⊎ (has now c k ≡ false) → has now c k ≡ nothing c k
-    here c k (inr off) = off
-    here c k (inl on) =
-        let known = known_carrier now c k (low_in now c k on) in
-        so.none c k (omega (arith, known))
 
 -- ---- a line is found by its number
 

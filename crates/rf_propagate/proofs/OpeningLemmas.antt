@@ -30,73 +30,9 @@ ends_of lo hi k h = let parts = and_parts (nat_le lo k) _ h in (leb-true lo k pa
 clash : {b : Bool} → b ≡ true → b ≡ false → ⊥
 clash yes_ no_ = true≢false (sym yes_ ∙ no_)
 
--- a condition `out` holds where nothing from lo to hi is left
-pub outside_holds : (b : Box) (cond : Cond) → cond.inside ≡ false → ((k : ℕ) → cond.lo ≤ k → k ≤ cond.hi → b cond.carrier k ≡ false) → Holds b cond
-outside_holds b cond out none = record {
-  each = λ k here. outside_is cond k out ∙ elim (cases_Bool (between cond.lo cond.hi k)) [
-    | inl within ↦ let ends = ends_of cond.lo cond.hi k within in absurd (clash here (none k ends.0 ends.1))
-    | inr beyond ↦ ap not beyond
-  ];
-}
-
-pub outside_none : (sets : List (List Bool)) (cond : Cond) → cond.inside ≡ false → HasNoneFrom (slice_index_or sets cond.carrier []) cond.lo → Holds (has sets) cond
-outside_none sets cond out none = outside_holds (has sets) cond out (λ k from to. none.none k from)
-
-pub outside_past : (sets : List (List Bool)) (cond : Cond) (first : ℕ) → cond.inside ≡ false → IsNext (slice_index_or sets cond.carrier []) cond.lo first → cond.hi < first
-    → Holds (has sets) cond
-outside_past sets cond first out next past = outside_holds (has sets) cond out (λ k from to. next.least k from (omega arith))
-
-pub outside_here : (sets : List (List Bool)) (cond : Cond) (k : ℕ) → cond.inside ≡ false → IsNext (slice_index_or sets cond.carrier []) cond.lo k → k ≤ cond.hi
-    → IsUnmet (has sets) cond k
-outside_here sets cond k out next within = record {
-  here = next.here;
-  unmet = outside_is cond k out ∙ ap not (is_between cond.lo cond.hi k next.later within);
-}
-
--- a condition `in` holds where nothing is left below lo and above hi
-pub inside_holds : (b : Box) (cond : Cond) → cond.inside ≡ true → ((k : ℕ) → b cond.carrier k ≡ true → (cond.lo ≤ k) × (k ≤ cond.hi)) → Holds b cond
-inside_holds b cond in_ ends = record {
-  each = λ k here. inside_is cond k in_ ∙ is_between cond.lo cond.hi k (ends k here).0 (ends k here).1;
-}
-
-pub inside_none : (sets : List (List Bool)) (cond : Cond) (c : ℕ) → c ≡ cond.carrier → cond.inside ≡ true → HasNoneFrom (slice_index_or sets c []) 0 → Holds (has sets) cond
-inside_none sets cond c at in_ none = inside_holds (has sets) cond in_ (λ k here.
-    absurd (clash here (subst (λ (d : ℕ). has sets d k ≡ false) at (none.none k (omega arith)))))
-
-pub inside_low : (sets : List (List Bool)) (cond : Cond) (c first : ℕ) → c ≡ cond.carrier → cond.inside ≡ true → IsNext (slice_index_or sets c []) 0 first → first < cond.lo
-    → IsUnmet (has sets) cond first
-inside_low sets cond c first at in_ next low = record {
-  here = subst (λ (d : ℕ). has sets d first ≡ true) at next.here;
-  unmet = inside_is cond first in_ ∙ below_is cond.lo cond.hi first low;
-}
-
-pub inside_both : (sets : List (List Bool)) (cond : Cond) (c first : ℕ) → c ≡ cond.carrier → cond.inside ≡ true → IsNext (slice_index_or sets c []) 0 first → cond.lo ≤ first
-    → HasNoneFrom (slice_index_or sets c []) (cond.hi + 1) → Holds (has sets) cond
-inside_both sets cond c first at in_ next from none = inside_holds (has sets) cond in_ (λ k here.
-    let at_c : has sets c k ≡ true = subst (λ (d : ℕ). has sets d k ≡ true) (sym at) here in (
-      elim (cases_lt k first) [
-        | inl below ↦ absurd (clash at_c (next.least k (omega arith) below))
-        | inr later ↦ omega arith
-      ],
-      elim (cases_lt cond.hi k) [
-        | inl above ↦ absurd (clash at_c (none.none k (omega arith)))
-        | inr within ↦ within
-      ],
-    ))
-
-pub inside_high : (sets : List (List Bool)) (cond : Cond) (c k : ℕ) → c ≡ cond.carrier → cond.inside ≡ true → IsNext (slice_index_or sets c []) (cond.hi + 1) k
-    → IsUnmet (has sets) cond k
-inside_high sets cond c k at in_ next = record {
-  here = subst (λ (d : ℕ). has sets d k ≡ true) at next.here;
-  unmet = inside_is cond k in_ ∙ above_is cond.lo cond.hi k (omega (arith, next.later));
-}
-
 -- the conditions from one place up to another hold throughout
 pub record HoldBetween (b : Box) (conds : List Cond) (from to : ℕ) : Type 0 where
   pub each : (j : ℕ) (d : Cond) → from ≤ j → j < to → Holds b (slice_index_or conds j d)
-
-pub hold_none : (b : Box) (conds : List Cond) (from : ℕ) → HoldBetween b conds from from
-hold_none b conds from = record { each = λ j d above below. absurd (omega arith) }
 
 pub hold_more : (b : Box) (conds : List Cond) (from to : ℕ) → HoldBetween b conds from to → ((d : Cond) → Holds b (slice_index_or conds to d))
     → HoldBetween b conds from (to + 1)

@@ -1,3 +1,5 @@
+//! Two propagators as one.
+
 ghost use Rattle.std.specs.Prelude.{◌++◌, ◌||◌};
 
 use crate::outcome::Outcome;

@@ -1,3 +1,5 @@
+//! A nogood line applied to sets of indices.
+
 ghost use Rattle.std.specs.Prelude.{◌≡◌, ◌≤◌, ◌<◌, Some, None, true, false};
 ghost use Rattle.rf_domain.specs.Sets.{has, sizes};
 ghost use Rattle.rf_log.specs.Box as box;

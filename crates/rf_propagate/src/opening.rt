@@ -1,3 +1,5 @@
+//! Which conditions of a nogood line hold throughout what is left.
+
 ghost use Rattle.std.specs.Prelude.{◌≡◌, ◌<◌, ◌≤◌, true, length, MatchOption};
 ghost use Rattle.rf_domain.specs.Sets.{has, sizes};
 ghost use Rattle.rf_propagate.specs.Openings.{FitsIn, AllFit, Holds, IsUnmet, HoldFrom, IsNextOpen};

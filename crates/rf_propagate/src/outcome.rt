@@ -1,3 +1,5 @@
+//! What a propagator answers when it is done.
+
 ghost use Rattle.std.specs.Prelude.{◌≡◌, ℕ, ◌<◌, true, false, length};
 ghost use Rattle.rf_domain.specs.Sets.{has};
 ghost use Rattle.rf_log.specs.Case.{Case, counts_of};

@@ -1,3 +1,5 @@
+//! Removals, each with the hint that is its reason.
+
 ghost use Rattle.std.specs.Prelude.{◌≡◌, ◌<◌, ◌≤◌, List, true, OnOk};
 ghost use Rattle.rf_domain.specs.Indices.{between};
 ghost use Rattle.rf_domain.specs.Sets.{size_of, without};

@@ -157,26 +157,6 @@ barred_all case c lo hi none = each_below-from (count_of case c) (λ k. not (bet
 
 -- ---- roles
 
--- all but one, written into an array of zeros
-pub others_are : (xs : List ℕ) (p : ℕ) → p < length xs → length xs ≤ 4
-    → take (length xs - 1) (put_mid p (length xs - 1 - p) (take p xs ++ drop p (0 ∷ 0 ∷ 0 ∷ 0 ∷ [])) (drop (p + 1) xs)) ≡ remove xs p
-others_are [] p low few = absurd (omega arith)
-others_are (a ∷ []) zero low few = refl
-others_are (a ∷ []) (suc p) low few = absurd (omega arith)
-others_are (a ∷ b ∷ []) zero low few = refl
-others_are (a ∷ b ∷ []) (suc zero) low few = refl
-others_are (a ∷ b ∷ []) (suc (suc p)) low few = absurd (omega arith)
-others_are (a ∷ b ∷ c ∷ []) zero low few = refl
-others_are (a ∷ b ∷ c ∷ []) (suc zero) low few = refl
-others_are (a ∷ b ∷ c ∷ []) (suc (suc zero)) low few = refl
-others_are (a ∷ b ∷ c ∷ []) (suc (suc (suc p))) low few = absurd (omega arith)
-others_are (a ∷ b ∷ c ∷ d ∷ []) zero low few = refl
-others_are (a ∷ b ∷ c ∷ d ∷ []) (suc zero) low few = refl
-others_are (a ∷ b ∷ c ∷ d ∷ []) (suc (suc zero)) low few = refl
-others_are (a ∷ b ∷ c ∷ d ∷ []) (suc (suc (suc zero))) low few = refl
-others_are (a ∷ b ∷ c ∷ d ∷ []) (suc (suc (suc (suc p)))) low few = absurd (omega arith)
-others_are (a ∷ b ∷ c ∷ d ∷ e ∷ xs) p low few = absurd (omega arith)
-
 -- the carrier of a range is one of the case
 pub range_carrier : (case : Case) (c lo hi : ℕ) → IsRangeIn case c lo hi → c < length case.carriers
 range_carrier case c lo hi range = elim (cases_lt c (length case.carriers)) [

@@ -24,31 +24,6 @@ pub record LooksOver (flags : List Bool) (from : ℕ) (wanted : Bool) (at : ℕ)
   pub known : at ≤ length flags
   pub before : (k : ℕ) → from ≤ k → k < at → get_or flags k false ≡ not wanted
 
-other_flag : (a b : Bool) → (a ≡ b → ⊥) → a ≡ not b
-other_flag true true f = absurd (f refl)
-other_flag true false f = refl
-other_flag false true f = refl
-other_flag false false f = absurd (f refl)
-
-pub looks_start : (flags : List Bool) (from : ℕ) (wanted : Bool) → from ≤ length flags → LooksOver flags from wanted from
-looks_start flags from wanted known = record { later = omega arith; known = known; before = λ k over under. absurd (omega arith) }
-
-pub looks_more : (flags : List Bool) (from : ℕ) (wanted : Bool) (at : ℕ) → LooksOver flags from wanted at → at < length flags → (get_or flags at false ≡ wanted → ⊥) → LooksOver flags from wanted (at + 1)
-looks_more flags from wanted at so low other = record {
-  later = omega (arith, so.later);
-  known = omega arith;
-  before = λ k over under. elim (lt_cases k at (omega arith)) [
-    | inl earlier ↦ so.before k over earlier
-    | inr last ↦ ap (λ j. get_or flags j false) last ∙ other_flag (get_or flags at false) wanted other
-  ];
-}
-
-pub found_flag : (flags : List Bool) (from : ℕ) (wanted : Bool) (at : ℕ) → LooksOver flags from wanted at → get_or flags at false ≡ wanted → IsFirstFlag flags from wanted at
-found_flag flags from wanted at so here = record { later = so.later; known = so.known; before = so.before; here = λ low. here }
-
-pub no_flag : (flags : List Bool) (from : ℕ) (wanted : Bool) (at : ℕ) → LooksOver flags from wanted at → length flags ≤ at → IsFirstFlag flags from wanted at
-no_flag flags from wanted at so done = record { later = so.later; known = so.known; before = so.before; here = λ low. absurd (omega arith) }
-
 -- what the flags of a run say
 pub record IsRun (case : Case) (flags : List Bool) (c from first end : ℕ) : Type 0 where
   pub is : flags ≡ (carrier_of case c).allowed
@@ -84,28 +59,6 @@ run_barred case flags c from first end run =
         let in_range : (first ≤ k) × (k ≤ end - 1) = inside k e in
         rw (e, off k in_range.0 (omega (arith, in_range.1, order))) refl
     at k (inr e) = rw e refl
-
--- whatever is left before the end of the run is allowed, where nothing is left in it
-pub run_done : (case : Case) (has : Box) (flags : List Bool) (c from first end : ℕ) → IsRun case flags c from first end → ((k : ℕ) → between first (end - 1) k ≡ true → has c k ≡ false)
-    → IsRunDone case has c from end
-run_done case has flags c from first end run none = record {
-  later = omega (arith, run.banned.later, run_order case flags c from first end run);
-  allowed = λ k over under here. elim (cases_lt k first) [
-    | inl earlier ↦ ap (λ fs. get_or fs k false) (sym run.is) ∙ run.banned.before k over earlier
-    | inr later ↦ absurd (true≢false (sym here ∙ none k (in_run k later under)))
-  ];
-}
-  where
-    in_run : (k : ℕ) → first ≤ k → k < end → between first (end - 1) k ≡ true
-    in_run k over under = grind (arith, nat_tests)
-
--- no flag is off any more
-pub rest_allowed : (case : Case) (has : Box) (flags : List Bool) (c from first n : ℕ) → flags ≡ (carrier_of case c).allowed → length flags ≡ n → IsFirstFlag flags from false first → n ≤ first → from < n
-    → IsRunDone case has c from n
-rest_allowed case has flags c from first n is size banned past low = record {
-  later = low;
-  allowed = λ k over under here. ap (λ fs. get_or fs k false) (sym is) ∙ banned.before k over (omega arith);
-}
 
 -- the first so many indices of a carrier
 pub record RunsDone (case : Case) (c : ℕ) (start now : Trace) (from : ℕ) : Type 0 where
@@ -161,13 +114,6 @@ bans_quiet case t counts allowed living = record {
 -- what is left of less is allowed too
 pub allowed_less : {case : Case} {old new : Box} {n : ℕ} → AreLess old new → AreAllowedBelow case old n → AreAllowedBelow case new n
 allowed_less less allowed = record { each = λ c low. record { each = λ k here. (allowed.each c low).each k (less c k here) } }
-
--- nothing was kept yet
-pub allowed_none : {case : Case} {rest : Option (List (List Bool))} → rest ≡ None → KeepsAllowed case rest
-allowed_none {case} {rest} none = record { sized = record { each = λ sets some. absurd (none_some sets (sym none ∙ some)) }; allowed = λ sets some. absurd (none_some sets (sym none ∙ some)) }
-  where
-    none_some : (sets : List (List Bool)) → None ≡ Some sets → ⊥
-    none_some sets e = cc
 
 -- a copy of what is left when all of it is allowed
 pub allowed_copy : (case : Case) (t : Trace) (sets copy : List (List Bool)) → copy ≡ sets → sizes sets ≡ t.counts → has sets ≡ left t → t.counts ≡ counts_of case

@@ -74,7 +74,8 @@ rising_more lines number conds rising above =
     subst IsStrictlyIncreasing (sym (map-append (λ (l : Line). l.number) lines (last ∷ []))) (rising_push (numbers_of lines) number rising (λ j low. below_last lines number above j low))
 
 -- after a push the lines are as before or one more
-pub kept_push : {A E : Type 0} (case : Case) (lines now : List Line) (number : ℕ) (conds : List Cond) → IsStrictlyIncreasing (numbers_of lines) → AreKnown case lines → IsAbove number lines → AreInRange case conds
+pub kept_push : {A E : Type 0} (case : Case) (lines now : List Line) (number : ℕ) (conds : List Cond) → IsStrictlyIncreasing (numbers_of lines)
+    → AreKnown case lines → IsAbove number lines → AreInRange case conds
     → (r : Result A E) → OnOk r (now ≡ lines ++ record { number = number; conds = conds } ∷ []) → OnErr r (now ≡ lines)
     → IsStrictlyIncreasing (numbers_of now) × AreKnown case now
 kept_push case lines now number conds rising known above more (Ok x) is none =

@@ -76,25 +76,6 @@ flagged_more case sets n flags None is room none so = flagged_set case sets n fa
         let here = only_below-here (count_of case n) (has sets n) k e in
         absurd (none k (record { here = here.1; alone = λ j on. only_below-is (count_of case n) (has sets n) k j e (sets_sized case sets is n j on) on }))
 
-pub flagged_all : (case : Case) (sets : List (List Bool)) (n : ℕ) (flags : List Bool) → sizes sets ≡ counts_of case → length case.carriers ≤ n → FlaggedUpTo case (has sets) n flags → AreSingles case (has sets) flags
-flagged_all case sets n flags is all so = record {
-  one = λ c on. elim (cases_lt c n) [
-    | inl low ↦ sym (so.same c low) ∙ on
-    | inr past ↦ absurd (true≢false (sym on ∙ so.later c past))
-  ];
-  all = λ c some. elim (cases_lt c n) [
-    | inl low ↦ so.same c low ∙ some
-    | inr past ↦ absurd (beyond c past (only_index case (has sets) c) refl some)
-  ];
-}
-  where
-    beyond : (c : ℕ) → n ≤ c → (o : Option ℕ) → only_index case (has sets) c ≡ o → is_some (only_index case (has sets) c) ≡ true → ⊥
-    beyond c past None e some = true≢false (sym some ∙ ap is_some e)
-    beyond c past (Some k) e some =
-        let here = only_below-here (count_of case c) (has sets c) k e in
-        let none : get_or (counts_of case) c 0 ≡ 0 = get_or_past (counts_of case) c 0 (omega (arith, counts_length case)) in
-        omega (arith, here.0, none, count_any case c)
-
 -- a carrier that is flagged as single has at most one index
 pub few_of_singles : (case : Case) (box : Box) (flags : List Bool) → AreSized case box → AreSingles case box flags → HaveFew box flags
 few_of_singles case box flags sized singles = record { each = λ c j k on here there. by c j k here there (only_index case box c) refl (singles.one c on) }
@@ -108,23 +89,6 @@ few_of_singles case box flags sized singles = record { each = λ c j k on here t
 pub record WithinUpTo (flags others : List Bool) (n : ℕ) : Type 0 where
   pub each : (c : ℕ) → c < n → is_flagged flags c ≡ true → is_flagged others c ≡ true
 
-pub within_start : (flags others : List Bool) → WithinUpTo flags others 0
-within_start flags others = record { each = λ c none. absurd (omega arith) }
-
-pub within_more : {flags others : List Bool} {n : ℕ} → WithinUpTo flags others n → (is_flagged flags n ≡ true → is_flagged others n ≡ true) → WithinUpTo flags others (n + 1)
-within_more {flags} {others} {n} so one = record {
-  each = λ c low on. elim (cases_eq c n) [
-    | inl e ↦ ap (is_flagged others) e ∙ one (sym (ap (is_flagged flags) e) ∙ on)
-    | inr e ↦ so.each c (lt_or c n low e) on
-  ];
-}
-
-pub within_all : {flags others : List Bool} {n : ℕ} → length flags ≤ n → WithinUpTo flags others n → (c : ℕ) → is_flagged flags c ≡ true → is_flagged others c ≡ true
-within_all {flags} {others} {n} all so c on = elim (cases_lt c n) [
-  | inl low ↦ so.each c low on
-  | inr past ↦ absurd (true≢false (sym on ∙ get_or_past flags c false (omega arith)))
-]
-
 -- those of the first so many carriers that are single and not known
 pub record FreshUpTo (n : ℕ) (single known : List Bool) (upto : ℕ) (fresh : List ℕ) : Type 0 where
   pub there : All (λ c. c < n) fresh
@@ -132,16 +96,6 @@ pub record FreshUpTo (n : ℕ) (single known : List Bool) (upto : ℕ) (fresh : 
 
 pub fresh_start : (n : ℕ) (single known : List Bool) → FreshUpTo n single known 0 []
 fresh_start n single known = record { there = λ i d none. absurd (omega arith); all = λ c none. absurd (omega arith) }
-
--- one that is not single, or is known
-pub fresh_past : {n : ℕ} {single known : List Bool} {i : ℕ} {fresh : List ℕ} → FreshUpTo n single known i fresh → (is_flagged single i ≡ true → is_flagged known i ≡ false → ⊥) → FreshUpTo n single known (i + 1) fresh
-fresh_past {n} {single} {known} {i} {fresh} so other = record {
-  there = so.there;
-  all = λ c low on off. elim (lt_cases c i (omega arith)) [
-    | inl earlier ↦ so.all c earlier on off
-    | inr last ↦ absurd (other (ap (is_flagged single) (sym last) ∙ on) (ap (is_flagged known) (sym last) ∙ off))
-  ];
-}
 
 pub fresh_more : {n : ℕ} {single known : List Bool} {i : ℕ} {fresh : List ℕ} → FreshUpTo n single known i fresh → i < n → FreshUpTo n single known (i + 1) (fresh ++ i ∷ [])
 fresh_more {n} {single} {known} {i} {fresh} so room = record {

@@ -191,7 +191,8 @@ clear_flagged case new flags kind place others c sized flagged clear = elim (cas
   | inr many ↦ many_clear case new kind place others c sized many
 ]
 
-were_same : (case : Case) (old new : Box) (flags : List Bool) (place : ℕ) (others : List ℕ) (c : ℕ) → AreLess old new → HaveFew old flags → ((o : ℕ) → is_among others o ≡ true → is_flagged flags o ≡ true)
+were_same : (case : Case) (old new : Box) (flags : List Bool) (place : ℕ) (others : List ℕ) (c : ℕ) → AreLess old new → HaveFew old flags
+    → ((o : ℕ) → is_among others o ≡ true → is_flagged flags o ≡ true)
     → WereSame case old new c (insert others place c)
 were_same case old new flags place others c less few flagged = λ o among other some. only_few case old new flags less few o (flagged o (among_others others place c o among other)) some
 
@@ -206,7 +207,8 @@ swept_less case old new flags sized less few kind place first swept = record {
 }
 
 -- the same for what is done with all carriers
-pub done_less : (case : Case) (old new : Box) (flags : List Bool) (kinds : List Kind) → AreSized case new → AreLess old new → HaveFew old flags → AreAllDone case old kinds → AreKindsDone case new flags kinds
+pub done_less : (case : Case) (old new : Box) (flags : List Bool) (kinds : List Kind) → AreSized case new → AreLess old new → HaveFew old flags
+    → AreAllDone case old kinds → AreKindsDone case new flags kinds
 done_less case old new flags kinds sized less few done = record {
   each = λ kind among. record {
     each = λ place low. record {
@@ -225,17 +227,21 @@ pub swept_on : {case : Case} {a b : Trace} {flags : List Bool} → GoesOn case a
 swept_on {case} {a} {b} {flags} on counts few kind place first swept =
     swept_less case (left a) (left b) flags (sized_left case b (on.counts ∙ counts)) (left_earlier on) few kind place first swept
 
-pub kind_on : {case : Case} {a b : Trace} {flags : List Bool} → GoesOn case a b → a.counts ≡ counts_of case → HaveFew (left a) flags → (kind : Kind) → IsKindDone case (left a) flags kind → IsKindDone case (left b) flags kind
+pub kind_on : {case : Case} {a b : Trace} {flags : List Bool} → GoesOn case a b → a.counts ≡ counts_of case → HaveFew (left a) flags → (kind : Kind)
+    → IsKindDone case (left a) flags kind → IsKindDone case (left b) flags kind
 kind_on on counts few kind done = record { each = λ place low. swept_on on counts few kind place [] (done.each place low) }
 
-pub kinds_on : {case : Case} {a b : Trace} {flags : List Bool} → GoesOn case a b → a.counts ≡ counts_of case → HaveFew (left a) flags → (kinds : List Kind) → AreKindsDone case (left a) flags kinds → AreKindsDone case (left b) flags kinds
+pub kinds_on : {case : Case} {a b : Trace} {flags : List Bool} → GoesOn case a b → a.counts ≡ counts_of case → HaveFew (left a) flags → (kinds : List Kind)
+    → AreKindsDone case (left a) flags kinds → AreKindsDone case (left b) flags kinds
 kinds_on on counts few kinds done = record { each = λ kind among. kind_on on counts few kind (done.each kind among) }
 
-pub ready_on : {case : Case} {a b : Trace} {single known : List Bool} {kind : Kind} {place : ℕ} → GoesOn case a b → a.counts ≡ counts_of case → IsReady case (left a) single known kind place → IsReady case (left b) single known kind place
+pub ready_on : {case : Case} {a b : Trace} {single known : List Bool} {kind : Kind} {place : ℕ} → GoesOn case a b → a.counts ≡ counts_of case
+    → IsReady case (left a) single known kind place → IsReady case (left b) single known kind place
 ready_on {kind = kind} {place = place} on counts ready = record { few = few_on on ready.few; few_known = few_on on ready.few_known; done = swept_on on counts ready.few_known kind place [] ready.done }
 
 -- where no carrier came to its last index, what is done with the carriers that were single is done with all
-pub all_done : {case : Case} {start now : Trace} {single : List Bool} → GoesOn case start now → start.counts ≡ counts_of case → NoneFixed start now → AreSingles case (left start) single → (kinds : List Kind)
+pub all_done : {case : Case} {start now : Trace} {single : List Bool} → GoesOn case start now → start.counts ≡ counts_of case → NoneFixed start now
+    → AreSingles case (left start) single → (kinds : List Kind)
     → AreKindsDone case (left now) single kinds → AreAllDone case (left now) kinds
 all_done {case} {start} {now} {single} on counts still singles kinds done = record {
   each = λ kind among place low others c whole.

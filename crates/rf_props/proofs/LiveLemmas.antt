@@ -69,7 +69,8 @@ below_high : (hi : ℤ) (high f : ℕ) → (hi <ℤ pos f → high ≤ f) → f 
 below_high hi high f above earlier = grind (arith, ints)
 
 -- a frequency whose cell lies between those of two others lies between them
-pub unmark_keeps : (m : Marks) (sets : List (List Bool)) (first end low high f : ℕ) (lo hi : ℤ) → first ≡ cell_of m low + 1 → end ≡ cell_of m high → has sets ≡ without (has m.cells) 0 (between first (end - 1))
+pub unmark_keeps : (m : Marks) (sets : List (List Bool)) (first end low high f : ℕ) (lo hi : ℤ) → first ≡ cell_of m low + 1 → end ≡ cell_of m high
+    → has sets ≡ without (has m.cells) 0 (between first (end - 1))
     → (pos f <ℤ lo → f ≤ low) → (hi <ℤ pos f → high ≤ f) → first < end → (IsIn lo hi f → ⊥) → is_marked m f ≡ true → is_marked (with_cells m sets) f ≡ true
 unmark_keeps m sets first end low high f lo hi is_first is_end is below above some out marked =
     ap (λ h. h 0 (cell_of m f)) is ∙ and_from (has m.cells 0 (cell_of m f)) (not (between first (end - 1) (cell_of m f))) marked (outside (cases_Bool (between first (end - 1) (cell_of m f))))
@@ -90,9 +91,6 @@ pub record MarksOn (case : Case) (box : Box) (start now : Marks) (c from : ℕ) 
   pub marked : (k : ℕ) → k < from → box c k ≡ true → is_marked now (freq_of case c k) ≡ true
   pub kept : (f : ℕ) → is_marked start f ≡ true → is_marked now f ≡ true
 
-pub marks_start : (case : Case) (box : Box) (m : Marks) (c : ℕ) → MarksOn case box m m c 0
-marks_start case box m c = record { small = λ k none here. absurd (omega arith); marked = λ k none here. absurd (omega arith); kept = λ f marked. marked }
-
 -- the frequencies of a carrier
 pub record AreFreqs (case : Case) (freqs : List ℕ) (c : ℕ) : Type 0 where
   pub is : freqs ≡ (carrier_of case c).freqs
@@ -102,7 +100,8 @@ pub record AreFreqs (case : Case) (freqs : List ℕ) (c : ℕ) : Type 0 where
 freq_at : (case : Case) (freqs : List ℕ) (c k : ℕ) → AreFreqs case freqs c → get_or freqs k 0 ≡ freq_of case c k
 freq_at case freqs c k are = ap (λ fs. get_or fs k 0) are.is
 
-pub known_at : (case : Case) (t : Trace) (sets : List (List Bool)) (freqs : List ℕ) (c k : ℕ) → t.counts ≡ counts_of case → has sets ≡ left t → AreFreqs case freqs c → flag (get_or sets c []) k ≡ true → k < length freqs
+pub known_at : (case : Case) (t : Trace) (sets : List (List Bool)) (freqs : List ℕ) (c k : ℕ) → t.counts ≡ counts_of case → has sets ≡ left t
+    → AreFreqs case freqs c → flag (get_or sets c []) k ≡ true → k < length freqs
 known_at case t sets freqs c k counts is are here =
     let low : k < count_of case c = sized_left case t counts c k (sym (ap (λ f. f c k) is) ∙ here) in
     let size : length freqs ≡ count_of case c = ap length are.is in
@@ -113,7 +112,8 @@ pub ordered_run : (case : Case) (t : Trace) (sets : List (List Bool)) (freqs : L
 ordered_run case t sets freqs c first last counts is are run =
     rising_le freqs are.rising first last run.ordered (known_at case t sets freqs c last counts is are (run.all last run.ordered (omega arith)))
 
-pub marks_more : (case : Case) (t : Trace) (sets : List (List Bool)) (freqs : List ℕ) (start now next : Marks) (c from first last : ℕ) → t.counts ≡ counts_of case → has sets ≡ left t → AreFreqs case freqs c
+pub marks_more : (case : Case) (t : Trace) (sets : List (List Bool)) (freqs : List ℕ) (start now next : Marks) (c from first last : ℕ)
+    → t.counts ≡ counts_of case → has sets ≡ left t → AreFreqs case freqs c
     → IsNext (get_or sets c []) from first → IsRun (get_or sets c []) first last
     → ((f : ℕ) → get_or freqs first 0 ≤ f → f ≤ get_or freqs last 0 → is_marked next f ≡ true) → ((f : ℕ) → is_marked now f ≡ true → is_marked next f ≡ true)
     → MarksOn case (left t) start now c from → MarksOn case (left t) start next c (last + 1)
@@ -137,25 +137,9 @@ marks_more case t sets freqs start now next c from first last counts is are here
     known : (k : ℕ) → left t c k ≡ true → k < length freqs
     known k on = known_at case t sets freqs c k counts is are (there k on)
 
-pub marks_all : (case : Case) (t : Trace) (sets : List (List Bool)) (start now : Marks) (c from : ℕ) → has sets ≡ left t → HasNoneFrom (get_or sets c []) from
-    → MarksOn case (left t) start now c from → IsMarkedAt case (left t) now c
-marks_all case t sets start now c from is none so = record {
-  small = λ k on. so.small k (low k on) on;
-  marked = λ k on. so.marked k (low k on) on;
-}
-  where
-    low : (k : ℕ) → left t c k ≡ true → k < from
-    low k on = elim (cases_lt k from) [
-      | inl earlier ↦ earlier
-      | inr later ↦ absurd (true≢false (sym (ap (λ f. f c k) is ∙ on) ∙ none.none k later))
-    ]
-
 -- the first so many carriers are marked
 pub record MarkedUpTo (case : Case) (box : Box) (m : Marks) (n : ℕ) : Type 0 where
   pub each : (c : ℕ) → c < n → IsMarkedAt case box m c
-
-pub marked_start : (case : Case) (box : Box) (m : Marks) → MarkedUpTo case box m 0
-marked_start case box m = record { each = λ c none. absurd (omega arith) }
 
 marks_stay : {case : Case} {box : Box} {now next : Marks} {c : ℕ} → ((f : ℕ) → is_marked now f ≡ true → is_marked next f ≡ true) → IsMarkedAt case box now c → IsMarkedAt case box next c
 marks_stay {case} {box} {now} {next} {c} keeps at = record { small = at.small; marked = λ k on. keeps (freq_of case c k) (at.marked k on) }
@@ -168,9 +152,6 @@ marked_more {case} {box} {now} {next} {n} keeps here so = record {
     | inr last ↦ subst (λ (x : ℕ). IsMarkedAt case box next x) (sym last) here
   ];
 }
-
-pub marked_all : (case : Case) (box : Box) (m : Marks) (n : ℕ) → length case.carriers ≤ n → MarkedUpTo case box m n → AreMarked case box m
-marked_all case box m n all so = record { each = λ c low. so.each c (omega arith) }
 
 -- marks are good for what is left later
 pub marked_on : {case : Case} {a b : Trace} {m : Marks} → GoesOn case a b → AreMarked case (left a) m → AreMarked case (left b) m
@@ -242,6 +223,3 @@ none_more {case} {box} {lo} {hi} {n} so here = record {
 -- what isn't left doesn't come back
 pub none_on : {case : Case} {a b : Trace} {lo hi : ℤ} {n : ℕ} → GoesOn case a b → NoneUpTo case (left a) lo hi n → NoneUpTo case (left b) lo hi n
 none_on {case} {a} {b} {lo} {hi} {n} on so = record { each = λ c low. record { none = λ k here. (so.each c low).none k (left_earlier on c k here) } }
-
-pub none_all : (case : Case) (box : Box) (lo hi : ℤ) (n : ℕ) → length case.carriers ≤ n → NoneUpTo case box lo hi n → HasNoneWithin case box lo hi
-none_all case box lo hi n all so = record { each = λ c low. so.each c (omega arith) }

@@ -27,14 +27,6 @@ rising_le freqs rising j k ordered known =
     let e : j + (k - j) ≡ k = omega arith in
     subst (λ (m : ℕ). get_or freqs j 0 ≤ get_or freqs m 0) e (rises freqs rising j (k - j) (omega arith))
 
-pub between_start : (freqs : List ℕ) (number n : ℕ) → n ≡ length freqs → IsBetween freqs number 0 n
-between_start freqs number n e = record {
-  ordered = omega arith;
-  few = omega arith;
-  below = λ k none. absurd (omega arith);
-  above = λ k over known. absurd (omega arith);
-}
-
 pub between_up : (freqs : List ℕ) (number from upto middle : ℕ) → IsStrictlyIncreasing freqs → IsBetween freqs number from upto → middle < upto → from ≤ middle
     → get_or freqs middle 0 < number → IsBetween freqs number (middle + 1) upto
 between_up freqs number from upto middle rising so low high less = record {
@@ -55,13 +47,6 @@ between_down freqs number from upto middle rising so low high more = record {
   where
     high' : from ≤ middle
     high' = omega arith
-
-pub between_end : (freqs : List ℕ) (number from upto : ℕ) → IsBetween freqs number from upto → upto ≤ from → AreBelow freqs number from
-between_end freqs number from upto so done = record {
-  few = omega (arith, so.few, so.ordered);
-  below = so.below;
-  above = λ k over known. so.above k (omega (arith, so.ordered)) known;
-}
 
 -- the counts at both ends of a range
 pub range_none : (freqs : List ℕ) (lo hi : ℤ) (low high first end : ℕ) → AreFrequencies freqs

@@ -17,13 +17,6 @@ use Rattle.rf_props.proofs.StrikeLemmas.{sized_left}
 use Rattle.rf_props.proofs.KeptLemmas.{AreLess, few_less, done_less, clear_flagged}
 use Rattle.rf_props.proofs.FlagLemmas.{sets_sized, few_of_singles}
 
--- nothing was ever at rest
-pub rests_none : {case : Case} {kinds : List Kind} {rest : Option (List (List Bool))} → rest ≡ None → Rests case kinds rest
-rests_none {case} {kinds} {rest} none = record { sized = record { each = λ sets some. absurd (none_some sets (sym none ∙ some)) }; done = λ sets some. absurd (none_some sets (sym none ∙ some)) }
-  where
-    none_some : (sets : List (List Bool)) → None ≡ Some sets → ⊥
-    none_some sets e = cc
-
 pub rests_some : {case : Case} {kinds : List Kind} {sets : List (List Bool)} → sizes sets ≡ counts_of case → AreAllDone case (has sets) kinds → Rests case kinds (Some sets)
 rests_some {case} {kinds} {sets} sized done = record {
   sized = record { each = λ others is. subst (λ (x : List (List Bool)). sizes x ≡ counts_of case) (same others is) sized };
@@ -38,7 +31,8 @@ pub less_by : (t : Trace) (inner outer : List (List Bool)) → has inner ≡ lef
 less_by t inner outer is within c k here = within.each c k (ap (λ f. f c k) is ∙ here)
 
 -- where no index has come back, the carriers that were single at rest are done with each other
-pub known_few : (case : Case) (t : Trace) (inner outer : List (List Bool)) (flags : List Bool) → has inner ≡ left t → sizes outer ≡ counts_of case → AreWithin inner outer → AreSingles case (has outer) flags
+pub known_few : (case : Case) (t : Trace) (inner outer : List (List Bool)) (flags : List Bool) → has inner ≡ left t → sizes outer ≡ counts_of case
+    → AreWithin inner outer → AreSingles case (has outer) flags
     → HaveFew (left t) flags
 known_few case t inner outer flags is sized within singles = few_less (less_by t inner outer is within) (few_of_singles case (has outer) flags (sets_sized case outer sized) singles)
 

@@ -80,7 +80,8 @@ pub record TurnsDone (case : Case) (flags : List Bool) (kind : Kind) (start now 
 pub turns_start : (case : Case) (flags : List Bool) (kind : Kind) (t : Trace) → TurnsDone case flags kind t t 0
 turns_start case flags kind t = record { on = stays case t; done = λ turn none. absurd (omega arith) }
 
-pub turns_more : {case : Case} {flags : List Bool} {kind : Kind} {start mid now : Trace} {i : ℕ} → TurnsDone case flags kind start mid i → mid.counts ≡ counts_of case → HaveFew (left mid) flags → GoesOn case mid now
+pub turns_more : {case : Case} {flags : List Bool} {kind : Kind} {start mid now : Trace} {i : ℕ} → TurnsDone case flags kind start mid i
+    → mid.counts ≡ counts_of case → HaveFew (left mid) flags → GoesOn case mid now
     → IsSwept case (left now) flags kind (target_role kind i) [] → TurnsDone case flags kind start now (i + 1)
 turns_more {case} {flags} {kind} {start} {mid} {now} {i} so counts few next swept = record {
   on = goes_on so.on next;
@@ -148,11 +149,8 @@ kinds_after {case = case} {flags = flags} {now = now} all kind kinds (Ok x) is c
     subst (λ (ks : List Kind). AreKindsDone case (left now) flags ks) is (kinds_more kind kinds counts few next one rest)
 kinds_after all kind kinds (Err x) is counts few next one rest = rest
 
--- the first kind and the others are done where all are
-pub first_done : {case : Case} {has : Box} {flags : List Bool} (all : List Kind) (kind : Kind) (kinds : List Kind) → kind ∷ kinds ≡ all → AreKindsDone case has flags all → IsKindDone case has flags kind
-first_done {case} {has} {flags} all kind kinds is done = (subst (λ (ks : List Kind). AreKindsDone case has flags ks) (sym is) done).each kind (zero, omega arith, refl)
-
-pub others_done : {case : Case} {has : Box} {flags : List Bool} (all : List Kind) (kind : Kind) (kinds : List Kind) → kind ∷ kinds ≡ all → AreKindsDone case has flags all → AreKindsDone case has flags kinds
+pub others_done : {case : Case} {has : Box} {flags : List Bool} (all : List Kind) (kind : Kind) (kinds : List Kind) → kind ∷ kinds ≡ all
+    → AreKindsDone case has flags all → AreKindsDone case has flags kinds
 others_done {case} {has} {flags} all kind kinds is done = record { each = λ k among. (subst (λ (ks : List Kind). AreKindsDone case has flags ks) (sym is) done).each k (later k among) }
   where
     later : (k : Kind) → Contains kinds k → Contains (kind ∷ kinds) k

@@ -100,7 +100,8 @@ pub singles_none : (case : Case) (has : Box) (others : List ℕ) (n : ℕ) → n
 singles_none case has others n known one = record { many = list_all_at (λ c. is_some (only_index case has c)) others n 0 known one.many }
 
 -- the number of indices that are left to a carrier, as the sets count them
-same_count : (t : Trace) (sets : List (List Bool)) (c n : ℕ) → sizes sets ≡ t.counts → has sets ≡ left t → n ≡ count_below (has sets c) (size_of (sizes sets) c) → n ≡ count_below (left t c) (size_of t.counts c)
+same_count : (t : Trace) (sets : List (List Bool)) (c n : ℕ) → sizes sets ≡ t.counts → has sets ≡ left t → n ≡ count_below (has sets c) (size_of (sizes sets) c)
+    → n ≡ count_below (left t c) (size_of t.counts c)
 same_count t sets c n same is counted = counted ∙ ap (λ f. count_below (f c) (size_of (sizes sets) c)) is ∙ ap (λ ns. count_below (left t c) (size_of ns c)) same
 
 -- the first so many carriers, and one more, which has at most one index or has not

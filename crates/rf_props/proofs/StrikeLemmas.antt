@@ -49,7 +49,8 @@ distinct_of case kind roles good =
 pub apart_of : (case : Case) (kind : Kind) (others : List ℕ) (place target : ℕ) → is_instance case kind (insert others place target) ≡ true → is_among others target ≡ false
 apart_of case kind others place target good = distinct_insert others place target (distinct_of case kind (insert others place target) good)
 
-pub clear_by : (case : Case) (t : Trace) (kind : Kind) (place : ℕ) (others freqs : List ℕ) (target : ℕ) → t.counts ≡ counts_of case → target < length case.carriers → AreFixed case (left t) others freqs
+pub clear_by : (case : Case) (t : Trace) (kind : Kind) (place : ℕ) (others freqs : List ℕ) (target : ℕ) → t.counts ≡ counts_of case
+    → target < length case.carriers → AreFixed case (left t) others freqs
     → ((k : ℕ) → left t target k ≡ true → k < count_of case target → Breaks kind place freqs (margin_of case kind (insert others place target)) (pos (freq_of case target k)) → ⊥)
     → IsClear case (left t) kind (insert others place target) target
 clear_by case t kind place others freqs target counts known fixed none =

@@ -64,7 +64,8 @@ clear_beyond case t kind roles c counts beyond =
     absurd (omega (arith, sized_left case t counts c k here, none)))
 
 -- where no role is open
-swept_whole : (case : Case) (has : Box) (flags : List Bool) (kind : Kind) (place : ℕ) (others : List ℕ) → length others + 1 ≡ roles_of kind → ((c : ℕ) → IsClear case has kind (insert others place c) c) → IsSwept case has flags kind place others
+swept_whole : (case : Case) (has : Box) (flags : List Bool) (kind : Kind) (place : ℕ) (others : List ℕ) → length others + 1 ≡ roles_of kind
+    → ((c : ℕ) → IsClear case has kind (insert others place c) c) → IsSwept case has flags kind place others
 swept_whole case has flags kind place others size clear = record {
   each = λ rest c whole flagged. at rest c (omega (arith, length-append others rest, whole, size));
 }
@@ -103,13 +104,6 @@ pub reach_of_victim : (case : Case) (kind : Kind) (place asks : ℕ) (others : L
     → asks ≡ asked_by case kind (get_or others (length others - 1) 0) → IsReachOf case kind place others asks
 reach_of_victim case kind place asks others other size low e = record { each = λ c. omega (arith, victim_asks case kind place asks others c other size low e) }
 
--- what breaks an instance lies in the window of the reach
-pub window_within : (case : Case) (kind : Kind) (place reach : ℕ) (others freqs : List ℕ) (lo hi : ℤ) → IsReachOf case kind place others reach
-    → ((x : ℤ) → Breaks kind place freqs reach x ↔ ((lo ≤ℤ x) × (x ≤ℤ hi))) → BreaksWithin case kind place others freqs lo hi
-window_within case kind place reach others freqs lo hi most window = record {
-  each = λ c f broken. (window (pos f)).0 (omega (arith, broken, most.each c));
-}
-
 -- a target with nothing left where the instance breaks
 pub clear_within : (case : Case) (t : Trace) (kind : Kind) (place : ℕ) (others freqs : List ℕ) (lo hi : ℤ) (c : ℕ) → t.counts ≡ counts_of case → c < length case.carriers
     → AreFixed case (left t) others freqs → BreaksWithin case kind place others freqs lo hi → HasNoneOf case (left t) c lo hi → IsClear case (left t) kind (insert others place c) c
@@ -117,7 +111,8 @@ clear_within case t kind place others freqs lo hi c counts known fixed within no
     clear_by case t kind place others freqs c counts known fixed (λ k here low broken. none.none k here (within.each c (freq_of case c k) broken))
 
 -- where no index that is left breaks the kind at its reach
-unbroken_swept : (case : Case) (t : Trace) (flags : List Bool) (kind : Kind) (place reach : ℕ) (others freqs : List ℕ) → t.counts ≡ counts_of case → length others + 1 ≡ roles_of kind → AreFixed case (left t) others freqs → IsReachOf case kind place others reach
+unbroken_swept : (case : Case) (t : Trace) (flags : List Bool) (kind : Kind) (place reach : ℕ) (others freqs : List ℕ) → t.counts ≡ counts_of case
+    → length others + 1 ≡ roles_of kind → AreFixed case (left t) others freqs → IsReachOf case kind place others reach
     → ((c k : ℕ) → c < length case.carriers → left t c k ≡ true → Breaks kind place freqs reach (pos (freq_of case c k)) → ⊥) → IsSwept case (left t) flags kind place others
 unbroken_swept case t flags kind place reach others freqs counts size fixed most none = swept_whole case (left t) flags kind place others size (λ c. at c)
   where
@@ -128,12 +123,14 @@ unbroken_swept case t flags kind place reach others freqs counts size fixed most
       | inr beyond ↦ clear_beyond case t kind (insert others place c) c counts beyond
     ]
 
-pub harmless_swept : (case : Case) (t : Trace) (flags : List Bool) (kind : Kind) (place reach : ℕ) (others freqs : List ℕ) → t.counts ≡ counts_of case → length others + 1 ≡ roles_of kind → AreFixed case (left t) others freqs → IsReachOf case kind place others reach
+pub harmless_swept : (case : Case) (t : Trace) (flags : List Bool) (kind : Kind) (place reach : ℕ) (others freqs : List ℕ) → t.counts ≡ counts_of case
+    → length others + 1 ≡ roles_of kind → AreFixed case (left t) others freqs → IsReachOf case kind place others reach
     → ((x : ℤ) → Breaks kind place freqs reach x → ⊥) → IsSwept case (left t) flags kind place others
 harmless_swept case t flags kind place reach others freqs counts size fixed most none =
     unbroken_swept case t flags kind place reach others freqs counts size fixed most (λ c k known here broken. none (pos (freq_of case c k)) broken)
 
-pub far_swept : (case : Case) (t : Trace) (flags : List Bool) (kind : Kind) (place reach : ℕ) (others freqs : List ℕ) (lo hi : ℤ) → t.counts ≡ counts_of case → length others + 1 ≡ roles_of kind → AreFixed case (left t) others freqs → IsReachOf case kind place others reach
+pub far_swept : (case : Case) (t : Trace) (flags : List Bool) (kind : Kind) (place reach : ℕ) (others freqs : List ℕ) (lo hi : ℤ) → t.counts ≡ counts_of case
+    → length others + 1 ≡ roles_of kind → AreFixed case (left t) others freqs → IsReachOf case kind place others reach
     → ((x : ℤ) → Breaks kind place freqs reach x ↔ ((lo ≤ℤ x) × (x ≤ℤ hi))) → HasNoneWithin case (left t) lo hi → IsSwept case (left t) flags kind place others
 far_swept case t flags kind place reach others freqs lo hi counts size fixed most window none =
     unbroken_swept case t flags kind place reach others freqs counts size fixed most
@@ -152,30 +149,9 @@ unasked_done case t flags kind counts most = record {
 pub record ReachUpTo (case : Case) (kind : Kind) (n reach : ℕ) : Type 0 where
   pub each : (c : ℕ) → c < n → asked_by case kind c ≤ reach
 
-pub reach_more : {case : Case} {kind : Kind} {n reach : ℕ} (asks next : ℕ) → ReachUpTo case kind n reach → asks ≡ asked_by case kind n → next ≡ max reach asks → ReachUpTo case kind (n + 1) next
-reach_more {case} {kind} {n} {reach} asks next so is e = record {
-  each = λ c low. elim (lt_cases c n (omega arith)) [
-    | inl earlier ↦ omega (arith, so.each c earlier)
-    | inr last ↦ subst (λ (x : ℕ). asked_by case kind x ≤ next) (sym last) (omega arith)
-  ];
-}
-
-unasked : (margin : Margin) → asked no_carrier margin ≡ 0
-unasked OfSpacing = refl
-unasked _ = refl
-
-pub reach_all : (case : Case) (kind : Kind) (n reach : ℕ) → length case.carriers ≤ n → ReachUpTo case kind n reach → IsReach case kind reach
-reach_all case kind n reach all so = record {
-  each = λ c. elim (cases_lt c n) [
-    | inl known ↦ so.each c known
-    | inr beyond ↦
-        let none : asked_by case kind c ≡ 0 = ap (λ x. asked x (table.margin_of kind)) (get_or_past case.carriers c no_carrier (omega arith)) ∙ unasked (table.margin_of kind) in
-        omega arith
-  ];
-}
-
 -- nothing breaks an instance of which one of the first has not exactly one index
-pub many_swept : (case : Case) (t : Trace) (flags : List Bool) (kind : Kind) (place : ℕ) (first : List ℕ) → t.counts ≡ counts_of case → HaveMany case (left t) first → IsSwept case (left t) flags kind place first
+pub many_swept : (case : Case) (t : Trace) (flags : List Bool) (kind : Kind) (place : ℕ) (first : List ℕ) → t.counts ≡ counts_of case
+    → HaveMany case (left t) first → IsSwept case (left t) flags kind place first
 many_swept case t flags kind place first counts many = record {
   each = λ rest c whole flagged.
       many_clear case (left t) kind place (first ++ rest) c (sized_left case t counts)
@@ -194,7 +170,8 @@ pub record Sweeping (case : Case) (flags : List Bool) (kind : Kind) (place : ℕ
 pub sweeping_start : (case : Case) (flags : List Bool) (kind : Kind) (place : ℕ) (first : List ℕ) (carrier : ℕ → ℕ) (t : Trace) → Sweeping case flags kind place first carrier t t 0
 sweeping_start case flags kind place first carrier t = record { on = stays case t; swept = λ turn none. absurd (omega arith) }
 
-pub sweeping_more : {case : Case} {flags : List Bool} {kind : Kind} {place : ℕ} {first : List ℕ} {carrier : ℕ → ℕ} {start mid now : Trace} {i : ℕ} → Sweeping case flags kind place first carrier start mid i
+pub sweeping_more : {case : Case} {flags : List Bool} {kind : Kind} {place : ℕ} {first : List ℕ} {carrier : ℕ → ℕ} {start mid now : Trace} {i : ℕ}
+    → Sweeping case flags kind place first carrier start mid i
     → mid.counts ≡ counts_of case → HaveFew (left mid) flags → GoesOn case mid now → IsSwept case (left now) flags kind place (first ++ carrier i ∷ []) → Sweeping case flags kind place first carrier start now (i + 1)
 sweeping_more {case} {flags} {kind} {place} {first} {carrier} {start} {mid} {now} {i} so counts few next swept = record {
   on = goes_on so.on next;
@@ -205,7 +182,8 @@ sweeping_more {case} {flags} {kind} {place} {first} {carrier} {start} {mid} {now
 }
 
 -- a carrier that is passed over
-pub sweeping_past : {case : Case} {flags : List Bool} {kind : Kind} {place : ℕ} {first : List ℕ} {carrier : ℕ → ℕ} {start now : Trace} {i : ℕ} → Sweeping case flags kind place first carrier start now i
+pub sweeping_past : {case : Case} {flags : List Bool} {kind : Kind} {place : ℕ} {first : List ℕ} {carrier : ℕ → ℕ} {start now : Trace} {i : ℕ}
+    → Sweeping case flags kind place first carrier start now i
     → now.counts ≡ counts_of case → HaveFew (left now) flags → IsSwept case (left now) flags kind place (first ++ carrier i ∷ []) → Sweeping case flags kind place first carrier start now (i + 1)
 sweeping_past {case} {now = now} so counts few swept = sweeping_more so counts few (stays case now) swept
 
@@ -269,7 +247,8 @@ each_swept case t flags kind place first counts open_roles each = record { each 
         ]
 
 -- where each fresh carrier took the last open role, and those in the others are known
-pub fresh_swept : (case : Case) (start now : Trace) (flags known : List Bool) (kind : Kind) (place : ℕ) (first fresh : List ℕ) (n : ℕ) → now.counts ≡ counts_of case → AreFresh (length case.carriers) flags known fresh
+pub fresh_swept : (case : Case) (start now : Trace) (flags known : List Bool) (kind : Kind) (place : ℕ) (first fresh : List ℕ) (n : ℕ)
+    → now.counts ≡ counts_of case → AreFresh (length case.carriers) flags known fresh
     → IsSwept case (left now) known kind place [] → length first + 2 ≡ roles_of kind → list_all (is_flagged known) first ≡ true
     → Sweeping case flags kind place first (λ i. get_or fresh i 0) start now n → length fresh ≤ n → IsSwept case (left now) flags kind place first
 fresh_swept case start now flags known kind place first fresh n counts new done last all so every = each_swept case now flags kind place first counts (λ whole. absurd (omega arith)) at

@@ -27,14 +27,16 @@ same_facts t a b c =
     ∙ ap {A = IsStrictlyIncreasing (numbers_of t.lines)} {B = ProblemTheory} (λ x. record { problem = t.problem; counts = t.counts; lines = t.lines; counted = t.counted; rising = x; in_range = c }) (pb b t.rising)
     ∙ ap {A = AreKnown (case_of t.problem.now) t.lines} {B = ProblemTheory} (λ x. record { problem = t.problem; counts = t.counts; lines = t.lines; counted = t.counted; rising = t.rising; in_range = x }) (pc c t.in_range)
 
-pub same_theory : (t : ProblemTheory) (ls : List Line) → ls ≡ t.lines → (a : t.counts ≡ counts_of (case_of t.problem.now)) (b : IsStrictlyIncreasing (numbers_of ls)) (c : AreKnown (case_of t.problem.now) ls)
+pub same_theory : (t : ProblemTheory) (ls : List Line) → ls ≡ t.lines
+    → (a : t.counts ≡ counts_of (case_of t.problem.now)) (b : IsStrictlyIncreasing (numbers_of ls)) (c : AreKnown (case_of t.problem.now) ls)
     → ◌≡◌ {A = ProblemTheory} (record { problem = t.problem; counts = t.counts; lines = ls; counted = a; rising = b; in_range = c }) t
 same_theory t ls same a =
     subst (λ (xs : List Line). (b : IsStrictlyIncreasing (numbers_of xs)) (c : AreKnown (case_of t.problem.now) xs)
     → ◌≡◌ {A = ProblemTheory} (record { problem = t.problem; counts = t.counts; lines = xs; counted = a; rising = b; in_range = c }) t) (sym same) (same_facts t a)
 
 -- a list of lines with one more, or the same
-pub grown_err : {A E : Type 0} (t : ProblemTheory) (ls : List Line) (r : Result A E) → OnErr r (ls ≡ t.lines) → (a : t.counts ≡ counts_of (case_of t.problem.now)) (b : IsStrictlyIncreasing (numbers_of ls)) (c : AreKnown (case_of t.problem.now) ls)
+pub grown_err : {A E : Type 0} (t : ProblemTheory) (ls : List Line) (r : Result A E) → OnErr r (ls ≡ t.lines)
+    → (a : t.counts ≡ counts_of (case_of t.problem.now)) (b : IsStrictlyIncreasing (numbers_of ls)) (c : AreKnown (case_of t.problem.now) ls)
     → OnErr r (◌≡◌ {A = ProblemTheory} (record { problem = t.problem; counts = t.counts; lines = ls; counted = a; rising = b; in_range = c }) t)
 grown_err t ls (Ok x) none a b c = none
 grown_err t ls (Err e) same a b c = same_theory t ls same a b c

@@ -86,9 +86,6 @@ pub record IsOnWay (case : Case) (found : ℕ → Option (List Cond)) (b : Box) 
   pub fit : All (IsHintIn case) (take n hints)
   pub living : (m : ℕ) → m < n → is_dead_after case (after_hints_of case found b (take m hints)) ≡ false
 
-pub way_start : (case : Case) (found : ℕ → Option (List Cond)) (b : Box) (hints : List Hint) → IsOnWay case found b hints b 0
-way_start case found b hints = record { works = refl; fit = λ k d low. absurd (omega arith); living = λ m low. absurd (omega arith) }
-
 pub all_more : {A : Type 0} (P : A → Type 0) (xs : List A) (x : A) → All P xs → P x → All P (xs ++ x ∷ [])
 all_more P [] x all here zero d low = here
 all_more P [] x all here (suc k) d low = absurd (omega arith)
@@ -108,22 +105,6 @@ way_more case found b hints now next n hint low is way living works fits =
         | inr other ↦ way.living m (omega arith)
       ];
     }
-
-pub way_ends : (case : Case) (found : ℕ → Option (List Cond)) (b : Box) (hints : List Hint) (now : Box) (n : ℕ) → n ≤ length hints
-    → IsOnWay case found b hints now n → is_dead case now ≡ true → IsReplayed case found b hints n
-way_ends case found b hints now n within way dead = record { within = within; fit = way.fit; dead = ap (is_dead_after case) way.works ∙ dead }
-
--- all hints leave each carrier an index
-pub way_none : (case : Case) (found : ℕ → Option (List Cond)) (b : Box) (hints : List Hint) (now : Box) (n : ℕ) → length hints ≤ n
-    → IsOnWay case found b hints now n → is_dead case now ≡ false → IsNotReplayed case found b hints
-way_none case found b hints now n past way living = record {
-  none = λ m within fit dead. elim (cases_lt m n) [
-    | inl below ↦ absurd (true≢false (sym dead ∙ way.living m below))
-    | inr above ↦
-        let same : take m hints ≡ take n hints = take_all m hints (omega arith) ∙ sym (take_all n hints past) in
-        absurd (true≢false (sym dead ∙ ap (λ hs. is_dead_after case (after_hints_of case found b hs)) same ∙ ap (is_dead_after case) way.works ∙ living))
-  ];
-}
 
 after_stuck : (case : Case) (found : ℕ → Option (List Cond)) (b mid : Box) (hs rest : List Hint) (hint : Hint)
     → after_hints_of case found b hs ≡ Some mid → effect_of case found mid hint ≡ None → after_hints_of case found b (hs ++ hint ∷ rest) ≡ None

@@ -147,17 +147,6 @@ pub branch_started : {case : Case} {lines : List Line} {old : Search} {log : Lis
 branch_started {case} {lines} {old} {log} choice u is left =
     (branch_step case old.budget log (path_at old) Fix choice.carrier choice.at u.searching is.known is.low is.honest (omega (arith, u.branched, left))).started
 
-pub branch_less : (old new : Search) (choice : Choice) → new.levels.items ≡ old.levels.items ++ left_level choice (length old.trail.entries) ∷ []
-    → new.branches ≡ old.branches + 1 → new.budget ≡ old.budget → old.branches < old.budget → effort new < effort old
-branch_less old new choice levels branches budget left =
-    let levels_are = last_is new.levels.items old.levels.items (left_level choice (length old.trail.entries)) levels in
-    let path_is : path_at new ≡ left_side Fix choice.carrier choice.at ∷ path_at old = ap path_of levels_are in
-    less new.budget new.branches old.budget old.branches (lefts (path_at new)) (lefts (path_at old)) budget branches
-    (ap lefts path_is ∙ lefts-cons (left_side Fix choice.carrier choice.at) (path_at old)) left
-  where
-    less : (b k b' k' l l' : ℕ) → b ≡ b' → k ≡ k' + 1 → l ≡ 1 + l' → k' < b' → 2 * (b - k) + l < 2 * (b' - k') + l'
-    less b k b' k' l l' eb ek el low = let e : b - k ≡ b' - (k' + 1) = ap (λ x. x - k) eb ∙ ap (λ x. b' - x) ek in omega (arith, e, el, low)
-
 -- each carrier has one index
 pub planned_by : {case : Case} {lines : List Line} {search : Search} {log : List LogLine} (plan : List ℕ) → IsUnderWay case lines 0 search log → IsAtRest case search
     → HaveNoPair (length search.trail.counts) (has_of search.trail.counts search.trail.entries)

@@ -27,12 +27,6 @@ Fetching-written finds written written' file file' counts counts' asked asked' i
   kept = it.kept;
 }
 
-pub Unjudged-kept : (show log : List ℕ) (written : Option (List ℕ))
-    (file file' : List ℕ → Option (Option (List ℕ))) (counts counts' : List ℕ → ℕ) (asked asked' : Option (List Ask)) →
-    KeepsOthers show log (shelf_alone file counts asked) (shelf_alone file' counts' asked') → Unjudged show log (outside written file counts asked) (outside written file' counts' asked')
-Unjudged-kept show log w file file' counts counts' asked asked' keeps =
-    record { unwritten = refl; keeps = record { got = keeps.got; may = keeps.may; others = keeps.others } }
-
 -- no memory was found at the start
 pub Unjudged-none : (show log : List ℕ) (o : Outside) → Unjudged show log o o
 Unjudged-none show log o = record { unwritten = refl; keeps = record { got = fault; may = may_fail (o.file show); others = λ name a b c. refl } }

@@ -74,25 +74,6 @@ verdict_cut old new n k places ending log verdict a b c ended leaves first secon
   wrote = Appends-then a b c log (take k verdict) _ first second refl;
 }
 
--- the frequencies of a plan are never refused as an edit
-pub admitted_ats : PlanIsAdmitted → (show : ShowData) (n : ℕ) (ending : Ending) (log : List LogLine) → IsSolved (case_of show) n log ending →
-    (ats : Option (List (Option ℕ))) → ats ≡ plan_ats show ending → (at : List (Option ℕ)) → ats ≡ Some at → IsAdmitted show (Place at)
-admitted_ats law show n (planned plan) log solved ats are at some =
-    let same : ◌≡◌ {A = Option (List (Option ℕ))} (plan_ats show (planned plan)) (Some at) = sym are ∙ some in
-    let P : Option (List (Option ℕ)) → Type 0 = λ o. elim o as (λ _. Type 0) [ None ↦ Unit {0} | Some x ↦ IsAdmitted show (Place x) ] in
-    subst P same (law show plan solved.ends)
-admitted_ats law show n refuted log solved ats are at some =
-    let same : ◌≡◌ {A = Option (List (Option ℕ))} None (Some at) = sym are ∙ some in cc
-admitted_ats law show n spent log solved ats are at some =
-    let same : ◌≡◌ {A = Option (List (Option ℕ))} None (Some at) = sym are ∙ some in cc
-
--- an edit without a reason against it is not refused
-pub never_refused : (h : History) (e : Edit) (reason : Refusal) → IsAdmitted h.show e → edited_history h e ≡ Err reason → ⊥
-never_refused h e reason admitted is =
-    let made : after_unless (refusal h.show e) (edited h.show e) ≡ after_unless None (edited h.show e) = ap (λ r. after_unless r (edited h.show e)) admitted.free in
-    let clash : accepted h (after_unless None (edited h.show e)) ≡ Err reason = ap (accepted h) (sym made) ∙ is in
-    cc
-
 -- a call that gave no error
 pub of_ok : {X E : Type 0} (r : Result X E) (P : Type 0) → is_err r ≡ false → OnOk r P → P
 of_ok (Ok x) P fine holds = holds

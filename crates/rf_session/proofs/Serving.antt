@@ -75,19 +75,6 @@ ends_quit step cuts m0 m m' o0 o o' r0 r r' s0 s s' refusal again so_far (line, 
       whole = rw ended (not_whole (is_long (input_of r0 x)));
     })
 
-pub ends_end : {M : Type 0} (step : M → Line → Fetched → Reply → M → Type 0) (cuts : M → Stop → Line → Fetched → List ℕ → Type 0) (m0 m m' : M)
-    (o0 o o' : Outside) (r0 r r' : LineReader) (s0 s s' : Option (List ℕ)) (refusal : Bool) →
-    Serving step m0 m o0 o r0 r s0 s refusal → Turns step cuts End m m' o o' r r' s s' →
-    WhereTold s0 s' (λ x z. Finishes step m0 m' o0 o' (input_of r0 x) refusal)
-ends_end step cuts m0 m m' o0 o o' r0 r r' s0 s s' refusal so_far (none, at_end) =
-    WhereTold-then s0 s s' _ _ _ so_far.told at_end (λ x y z follows empty.
-    let nothing = IsAtNone-end (input_of r y) empty in
-    let all : answered (lines_of (input_of r0 x)) ≡ so_far.done ++ [] = rw (follows.lines, nothing.lines) refl in
-    record {
-      all = Answered-still step m0 m m' o0 o o' so_far.done _ refusal so_far.all none all;
-      whole = rw (follows.long, nothing.long) refl;
-    })
-
 pub ends_over : {M : Type 0} (step : M → Line → Fetched → Reply → M → Type 0) (cuts : M → Stop → Line → Fetched → List ℕ → Type 0) (m0 m m' : M)
     (o0 o o' : Outside) (r0 r r' : LineReader) (s0 s s' : Option (List ℕ)) (refusal : Bool) →
     Serving step m0 m o0 o r0 r s0 s refusal → Turns step cuts TooLong m m' o o' r r' s s' →

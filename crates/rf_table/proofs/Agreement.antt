@@ -95,7 +95,8 @@ at-same (Some a) None h = absurd h
 
 -- ---- who may be together
 
-meet-same : (size : ℕ) (old new : ZonesData) (a b x y : Option Carrier) → SameZones old new → AreAlike a b → AreAlike x y → option_map_or (λ c. option_map_or (λ d. meet size old c d) x false) a false ≡ option_map_or (λ c. option_map_or (λ d. meet size new c d) y false) b false
+meet-same : (size : ℕ) (old new : ZonesData) (a b x y : Option Carrier) → SameZones old new → AreAlike a b → AreAlike x y
+    → option_map_or (λ c. option_map_or (λ d. meet size old c d) x false) a false ≡ option_map_or (λ c. option_map_or (λ d. meet size new c d) y false) b false
 meet-same size old new None None x y z h k = refl
 meet-same size old new None (Some b) x y z h k = absurd h
 meet-same size old new (Some a) None x y z h k = absurd h
@@ -131,7 +132,8 @@ all-out mask p q (c ∷ t) h k =
     let o = or-parts (has_bit mask c) (meets mask t) h in
     ap (λ b. b && list_all p t) (k c o.0) ∙ ap (λ b. q c && b) (all-out mask p q t o.1 k)
 
-minute-same : (mask : ℕ) (old new : ShowData) (t : List ℕ) → Unchanged mask old new → meets mask t ≡ false → share_minute (map (λ x. x.times) old.carriers) t ≡ share_minute (map (λ x. x.times) new.carriers) t
+minute-same : (mask : ℕ) (old new : ShowData) (t : List ℕ) → Unchanged mask old new → meets mask t ≡ false
+    → share_minute (map (λ x. x.times) old.carriers) t ≡ share_minute (map (λ x. x.times) new.carriers) t
 unfolding share_minute
 minute-same mask old new t u h =
     some-same 10080 (λ minute. list_all (on_at (map (λ x. x.times) old.carriers) minute) t) (λ minute. list_all (on_at (map (λ x. x.times) new.carriers) minute) t)

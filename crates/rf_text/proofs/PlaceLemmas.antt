@@ -54,7 +54,3 @@ places_full old text fraction place rest w h =
     let none : 9 - place ≡ 0 = omega arith in
     let small : rest < 10 ^ 0 = subst (λ k. rest < 10 ^ k) none w.small in
     places_ended old text fraction place rest w (omega (arith, small))
-
--- each unit fits
-pub unit_fits : (place : ℕ) → place < 9 → 10 ^ (8 - place) < 2 ^ 64
-unit_fits place h = let few = pow-le-pow_right {n = 10} (lit< tt) {i = 8 - place} {j = 8} (omega arith) in omega (arith, few)

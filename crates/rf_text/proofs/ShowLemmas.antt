@@ -19,9 +19,6 @@ use Rattle.rf_text.specs.declared.command_lines.CommandLines.{CommandLines}
 use Rattle.rf_text.specs.Shows.{Adds, IsCounted, coupling_edit, first_range_line, pair_line, pairs_with, range_line, ranges_lines, same_coupling, stand, zone_line, zone_name}
 use Rattle.rf_text.proofs.RunLemmas.{range_parts}
 
-pub adds_none : (lines : CommandLines) → IsCounted lines → Adds lines lines []
-adds_none lines h = record { text = rw append-nil refl; count = omega arith; counted = h }
-
 -- some lines, and then others
 pub adds_both : (old next new : CommandLines) (commands more : List Command) → Adds old next commands → Adds next new more → Adds old new (commands ++ more)
 adds_both old next new commands more a b =
@@ -34,17 +31,6 @@ adds_both old next new commands more a b =
       counted = b.counted;
     }
 
--- the lines of one element more
-pub adds_more : {X : Type 0} (old next new : CommandLines) (f : X → List Command) (xs : List X) (index : ℕ) (x : X) → index < length xs
-    → Adds old next (flat_map f (take index xs)) → Adds next new (f (get_or xs index x)) → Adds old new (flat_map f (take (index + 1) xs))
-adds_more old next new f xs index x inside a b =
-    let taken = take_more xs index x inside in
-    rw (taken, flat_map-append, append-nil) (adds_both old next new (flat_map f (take index xs)) (f (get_or xs index x)) a b)
-
-pub adds_all : {X : Type 0} (old new : CommandLines) (f : X → List Command) (xs : List X) (index : ℕ) → length xs ≤ index
-    → Adds old new (flat_map f (take index xs)) → Adds old new (flat_map f xs)
-adds_all old new f xs index h a = let all = take_all index xs h in rw all at a
-
 map-push : {X Y : Type 0} (f : X → Y) (xs : List X) (x : X) → map f (xs ++ x ∷ []) ≡ map f xs ++ f x ∷ []
 map-push f [] x = refl
 map-push f (y ∷ xs) x = ap (λ more. f y ∷ more) (map-push f xs x)
@@ -55,10 +41,6 @@ pub adds_one : {X : Type 0} (old next new : CommandLines) (f : X → Command) (x
 adds_one old next new f xs index x inside a b =
     let taken = take_more xs index x inside in
     rw (taken, map-push) (adds_both old next new (map f (take index xs)) (f (get_or xs index x) ∷ []) a b)
-
-pub adds_each : {X : Type 0} (old new : CommandLines) (f : X → Command) (xs : List X) (index : ℕ) → length xs ≤ index
-    → Adds old new (map f (take index xs)) → Adds old new (map f xs)
-adds_each old new f xs index h a = let all = take_all index xs h in rw all at a
 
 -- ---- zones
 

@@ -72,7 +72,8 @@ apart c = apart_of (case_of c.args.problem.now) c.args.kind c.args.others.now c.
 known_target : (c : goal.After-remove_because) → c.args.target < length (case_of c.args.problem.now).carriers
 known_target c = omega (arith, count_is c.args.problem.now, c.requires.target)
 
-is_broken : (c : goal.After-remove_because) → AreBroken (case_of c.args.problem.now) c.args.kind c.args.place (insert c.args.others.now c.args.place c.args.target) c.args.freqs.now c.args.target c.in-Some.range.0 c.in-Some.range.1
+is_broken : (c : goal.After-remove_because)
+    → AreBroken (case_of c.args.problem.now) c.args.kind c.args.place (insert c.args.others.now c.args.place c.args.target) c.args.freqs.now c.args.target c.in-Some.range.0 c.in-Some.range.1
 is_broken c =
     subst (λ (rs : List ℕ). AreBroken (case_of c.args.problem.now) c.args.kind c.args.place rs c.args.freqs.now c.args.target c.in-Some.range.0 c.in-Some.range.1) c.with_target-all.ensures c.in-Some.ensures
 
