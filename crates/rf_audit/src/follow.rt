@@ -131,7 +131,8 @@ fn keep_up(
 ) -> Result<(), NoMemory>
     requires table { IsTable (case_of show.now) table.now.rows.items table.now.leaders.items }
     requires sized { AreSized (case_of show.now) left.old.sets.items }
-    ensures { OnOk result ((before : List CondData) → IsLeft (case_of show.now) before left.old.fixed.items left.old.sets.items → walk.tree_after (Some before) line.now ≡ Some (reverse path.now) → IsLeft (case_of show.now) (reverse path.now) left.new.fixed.items left.new.sets.items) }
+    ensures { OnOk result ((before : List CondData) → IsLeft (case_of show.now) before left.old.fixed.items left.old.sets.items →
+        walk.tree_after (Some before) line.now ≡ Some (reverse path.now) → IsLeft (case_of show.now) (reverse path.now) left.new.fixed.items left.new.sets.items) }
 {
     match line {
         LogLine::Nogood { .. } => (),

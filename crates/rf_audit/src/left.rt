@@ -55,7 +55,8 @@ impl Left {
     /// One decision more.
     pub(crate) fn narrow(&mut self, show: &Show, cond: &Cond)
         requires sized { AreSized (case_of show.now) self.old.sets.items }
-        ensures { (path : List CondData) → IsLeft (case_of show.now) path self.old.fixed.items self.old.sets.items → IsLeft (case_of show.now) (cond.now ∷ path) self.new.fixed.items self.new.sets.items }
+        ensures { (path : List CondData) → IsLeft (case_of show.now) path self.old.fixed.items self.old.sets.items →
+            IsLeft (case_of show.now) (cond.now ∷ path) self.new.fixed.items self.new.sets.items }
     {
         let carrier = cond.carrier as usize;
         if carrier < self.sets.len() {

@@ -72,7 +72,8 @@ fn strike_led(
     requires bound { unsigned_abs rest ≤ 640000000 }
     requires leader { g < length table.now.leaders.items }
     ensures falls { Falls (case_of show.now) fixed.now sets.old.items sets.new.items }
-    ensures cleared { (c : ℕ) → c < length (case_of show.now).carriers → slice_index table.now.leaders.items c ≡ g → IsClearedAt (case_of show.now) fixed.now sets.new.items aim.kind aim.place chosen c }
+    ensures cleared { (c : ℕ) → c < length (case_of show.now).carriers → slice_index table.now.leaders.items c ≡ g →
+        IsClearedAt (case_of show.now) fixed.now sets.new.items aim.kind aim.place chosen c }
 {
     let mut with_leader = chosen;
     with_leader[aim.place] = g;

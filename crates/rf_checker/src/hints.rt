@@ -42,7 +42,8 @@ pub(crate) fn apply_ban(
     requires rising { lo ≤ hi }
     requires index { hi < count_of (case_of show.now) c }
     requires box_for { IsBoxFor (case_of show.now) sets.old }
-    ensures effect { IfOk result (λ works. (if hints.is_barred (case_of show.now) c lo hi then Some (box.without (box_in sets.old) c (box.between lo hi)) else None) ≡ (if works then Some (box_in sets.new) else None)) }
+    ensures effect { IfOk result (λ works. (if hints.is_barred (case_of show.now) c lo hi then Some (box.without (box_in sets.old) c (box.between lo hi)) else None) ≡
+        (if works then Some (box_in sets.new) else None)) }
     ensures box_for { IfOk result (λ works. IsBoxFor (case_of show.now) sets.new) }
 {
     if !is_barred(show, c, lo, hi) {

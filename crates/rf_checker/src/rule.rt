@@ -126,7 +126,8 @@ fn all_break(
     requires small { AreFrequencies freqs }
     requires rising { lo ≤ hi }
     requires index { hi < case.count_of (case_of show.now) target }
-    ensures { spec.IsEach (λ k. case.is_broken kind (slice_set (take (length roles.now) freqs) place (case.freq_of (case_of show.now) target k)) (case.margin_of (case_of show.now) kind roles.now)) lo hi result }
+    ensures { spec.IsEach (λ k. case.is_broken kind (slice_set (take (length roles.now) freqs) place (case.freq_of (case_of show.now) target k))
+        (case.margin_of (case_of show.now) kind roles.now)) lo hi result }
 {
     let margin = margin(show, kind, roles);
     for k in lo..count(show, target) {
@@ -188,7 +189,8 @@ pub(crate) fn apply_rule(
     requires rising { lo ≤ hi }
     requires index { hi < case.count_of (case_of show.now) target }
     requires box_for { IsBoxFor (case_of show.now) sets.old }
-    ensures effect { IfOk result (λ works. (if hints.is_ruled_out (case_of show.now) (box_in sets.old) kind roles.now target lo hi then Some (box.without (box_in sets.old) target (box.between lo hi)) else None) ≡ (if works then Some (box_in sets.new) else None)) }
+    ensures effect { IfOk result (λ works. (if hints.is_ruled_out (case_of show.now) (box_in sets.old) kind roles.now target lo hi then
+        Some (box.without (box_in sets.old) target (box.between lo hi)) else None) ≡ (if works then Some (box_in sets.new) else None)) }
     ensures box_for { IfOk result (λ works. IsBoxFor (case_of show.now) sets.new) }
 {
     if !is_ruled_out(show, sets, kind, roles, place, target, lo, hi) {

@@ -74,7 +74,8 @@ candidate-alike mask old new kind t a h =
     let near : are_joined old (roles_of kind) t ≡ are_joined new (roles_of kind) t = a.joined (roles_of kind) t h in
     cc (own, near)
 
-pub broken-alike : (mask : ℕ) (old new : ShowData) (kind : Kind) (t : List ℕ) → Agrees mask old new → length t ≡ roles_of kind → meets mask t ≡ false → is_broken old (ats_of old) kind t ≡ is_broken new (ats_of new) kind t
+pub broken-alike : (mask : ℕ) (old new : ShowData) (kind : Kind) (t : List ℕ) → Agrees mask old new → length t ≡ roles_of kind → meets mask t ≡ false →
+    is_broken old (ats_of old) kind t ≡ is_broken new (ats_of new) kind t
 unfolding is_broken
 broken-alike mask old new kind t a n h =
     let d : distance_of (ats_of old) kind t ≡ distance_of (ats_of new) kind t = distance-alike mask old new kind t a h in
@@ -84,10 +85,12 @@ broken-alike mask old new kind t a n h =
     ∙ ap (λ k. nat_lt (distance_of (ats_of new) kind t) k && is_candidate old (ats_of old) kind t) m
     ∙ ap (λ b. nat_lt (distance_of (ats_of new) kind t) (margin_of new kind t) && b) c
 
-pub conflict-alike : (mask : ℕ) (old new : ShowData) (kind : Kind) (t : List ℕ) → Agrees mask old new → length t ≡ roles_of kind → meets mask t ≡ false → conflict_of old (ats_of old) kind t ≡ conflict_of new (ats_of new) kind t
+pub conflict-alike : (mask : ℕ) (old new : ShowData) (kind : Kind) (t : List ℕ) → Agrees mask old new → length t ≡ roles_of kind → meets mask t ≡ false →
+    conflict_of old (ats_of old) kind t ≡ conflict_of new (ats_of new) kind t
 unfolding conflict_of
 conflict-alike mask old new kind t a n h =
-    let p : product_of (ats_of old) kind (sources_of t) ≡ product_of (ats_of new) kind (sources_of t) = ap (value_of kind) (khzs-alike mask old new (sources_of t) a (out-take mask (length t - 1) t h)) in
+    let p : product_of (ats_of old) kind (sources_of t) ≡ product_of (ats_of new) kind (sources_of t) =
+    ap (value_of kind) (khzs-alike mask old new (sources_of t) a (out-take mask (length t - 1) t h)) in
     let d : distance_of (ats_of old) kind t ≡ distance_of (ats_of new) kind t = distance-alike mask old new kind t a h in
     let m : margin_of old kind t ≡ margin_of new kind t = margin-alike mask old new kind t a n h in
     cc (p, d, m)

@@ -31,7 +31,8 @@ passed-zero f p = sym (ap (λ xs. map f (filter p xs)) upto-zero)
 
 passed-suc : {Y : Type 0} (f : ℕ → Y) (p : ℕ → Bool) (i : ℕ) → map f (filter p (upto (i + 1))) ≡ map f (filter p (upto i)) ++ map f (filter p (i ∷ []))
 passed-suc f p i =
-    ap (λ j. map f (filter p (upto j))) (add-one i) ∙ ap (λ xs. map f (filter p xs)) (upto-suc i) ∙ ap (map f) (filter-append p (upto i) (i ∷ [])) ∙ map-append f (filter p (upto i)) (filter p (i ∷ []))
+    ap (λ j. map f (filter p (upto j))) (add-one i) ∙ ap (λ xs. map f (filter p xs)) (upto-suc i) ∙ ap (map f) (filter-append p (upto i) (i ∷ [])) ∙
+    map-append f (filter p (upto i)) (filter p (i ∷ []))
 
 pub passed-more : {Y : Type 0} (f : ℕ → Y) (p : ℕ → Bool) (i : ℕ) → p i ≡ true → map f (filter p (upto i)) ++ f i ∷ [] ≡ map f (filter p (upto (i + 1)))
 passed-more f p i h =
@@ -46,10 +47,12 @@ passed-same f p i h =
 -- ---- kinds
 
 -- a kind of which no carrier asks anything has no broken instance
-pub idle : (show : ShowData) (ats : List (Option ℕ)) (kind : Kind) → length ats ≡ length show.carriers → list_all (λ (l : Lane). l.needs == 0) (map (lane_of show ats kind) (upto (length ats))) ≡ true → conflicts_of show ats kind ≡ []
+pub idle : (show : ShowData) (ats : List (Option ℕ)) (kind : Kind) → length ats ≡ length show.carriers →
+    list_all (λ (l : Lane). l.needs == 0) (map (lane_of show ats kind) (upto (length ats))) ≡ true → conflicts_of show ats kind ≡ []
 idle show ats kind n h =
     let all = tuples (roles_of kind) (upto (length ats)) in
-    sym (found-all (conflict_of show ats kind) (is_broken show ats kind) all) ∙ found-none (conflict_of show ats kind) (is_broken show ats kind) [] all (λ u. broken-far show ats kind u (omega (arith, nothing-asked show ats kind u n h)))
+    sym (found-all (conflict_of show ats kind) (is_broken show ats kind) all) ∙
+    found-none (conflict_of show ats kind) (is_broken show ats kind) [] all (λ u. broken-far show ats kind u (omega (arith, nothing-asked show ats kind u n h)))
 
 -- ---- how many there are
 
@@ -75,8 +78,10 @@ analysis-few show h =
     let off : length (off_grid show) ≤ most_carriers = carriers-few (λ c. OffGrid c) (λ c. is_off_grid show c (at_in ats c)) (length show.carriers) h in
     let banned : length (banned_carriers show) ≤ most_carriers = carriers-few (λ c. Banned c) (λ c. stands_banned show c (at_in ats c)) (length show.carriers) h in
     let rest : length (flat_map (conflicts_of show ats) kinds) ≤ length kinds * most_carriers ^ 4 = parts-few show ats kinds n in
-    let tail : length (banned_carriers show ++ flat_map (conflicts_of show ats) kinds) ≤ most_carriers + length kinds * most_carriers ^ 4 = omega (arith, length-append (banned_carriers show) (flat_map (conflicts_of show ats) kinds), banned, rest) in
+    let tail : length (banned_carriers show ++ flat_map (conflicts_of show ats) kinds) ≤ most_carriers + length kinds * most_carriers ^ 4 =
+    omega (arith, length-append (banned_carriers show) (flat_map (conflicts_of show ats) kinds), banned, rest) in
     omega (arith, length-append (off_grid show) (banned_carriers show ++ flat_map (conflicts_of show ats) kinds), off, tail)
 
-pub analysed-is : (show : ShowData) (shown : List Conflict) (total : ℕ) → shown ≡ shown_of (analysis show) → total ≡ length (analysis show) → ◌≡◌ {A = Analysis} (record { shown = shown; total = total }) (analysed show)
+pub analysed-is : (show : ShowData) (shown : List Conflict) (total : ℕ) → shown ≡ shown_of (analysis show) → total ≡ length (analysis show) →
+    ◌≡◌ {A = Analysis} (record { shown = shown; total = total }) (analysed show)
 analysed-is show shown total e f = cc

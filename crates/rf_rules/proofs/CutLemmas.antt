@@ -23,7 +23,8 @@ run-at : {Y : Type 0} (lt : Y → Y → Bool) (x y : Y) (f : List Y → List Y) 
 run-at lt x y f n m ys true e h k = rw e (ap (λ zs. y ∷ zs) h)
 run-at lt x y f n m ys false e h k = rw e (ap (λ zs. x ∷ zs) k)
 
-run-cut : {Y : Type 0} (lt : Y → Y → Bool) (x : Y) (f : List Y → List Y) (ys : List Y) (n m : ℕ) → ((n m : ℕ) (zs : List Y) → n ≤ m → take n (f (take m zs)) ≡ take n (f zs)) → n ≤ m → take n (up_to lt x f (take m ys)) ≡ take n (up_to lt x f ys)
+run-cut : {Y : Type 0} (lt : Y → Y → Bool) (x : Y) (f : List Y → List Y) (ys : List Y) (n m : ℕ) → ((n m : ℕ) (zs : List Y) → n ≤ m → take n (f (take m zs)) ≡ take n (f zs)) →
+    n ≤ m → take n (up_to lt x f (take m ys)) ≡ take n (up_to lt x f ys)
 run-cut lt x f ys zero m h q = refl
 run-cut lt x f ys (suc n) zero h q = absurd (omega (arith, q))
 run-cut lt x f [] (suc n) (suc m) h q = refl
@@ -45,7 +46,8 @@ pub shown-merge : {Y : Type 0} (lt : Y → Y → Bool) (front xs ys : List Y) �
 unfolding shown_of
 shown-merge lt front xs ys = cut-behind lt 10000 front xs ys
 
-run-length-at : {Y : Type 0} (lt : Y → Y → Bool) (x y : Y) (f : List Y → List Y) (k : ℕ) (ys : List Y) (b : Bool) → lt y x ≡ b → ((zs : List Y) → length (f zs) ≡ k + length zs) → length (up_to lt x f ys) ≡ suc k + length ys → length (up_to lt x f (y ∷ ys)) ≡ suc k + length (y ∷ ys)
+run-length-at : {Y : Type 0} (lt : Y → Y → Bool) (x y : Y) (f : List Y → List Y) (k : ℕ) (ys : List Y) (b : Bool) → lt y x ≡ b → ((zs : List Y) → length (f zs) ≡ k + length zs) →
+    length (up_to lt x f ys) ≡ suc k + length ys → length (up_to lt x f (y ∷ ys)) ≡ suc k + length (y ∷ ys)
 run-length-at lt x y f k ys true e h ih = rw e (omega (arith, ih))
 run-length-at lt x y f k ys false e h ih = rw e (omega (arith, h (y ∷ ys)))
 

@@ -43,7 +43,12 @@ form-bound : (cs : List ℤ) (fs : List ℕ) → AllSmall cs → AreFrequencies 
 form-bound [] fs small freqs = omega arith
 form-bound (c ∷ cs) [] small freqs = omega arith
 form-bound (c ∷ cs) (f ∷ fs) small freqs =
-    omega (arith, abs-add (c *ℤ pos f) (form cs (map pos fs)), abs-mul c (pos f) (small 0 c (omega arith)).1 (freqs 0 f (omega arith)), form-bound cs fs (λ k d h. small (suc k) d (omega arith)) (λ k d h. freqs (suc k) d (omega arith)))
+    omega (
+      arith,
+      abs-add (c *ℤ pos f) (form cs (map pos fs)),
+      abs-mul c (pos f) (small 0 c (omega arith)).1 (freqs 0 f (omega arith)),
+      form-bound cs fs (λ k d h. small (suc k) d (omega arith)) (λ k d h. freqs (suc k) d (omega arith)),
+    )
 
 form-push : (cs xs : List ℤ) (x : ℤ) → form cs (xs ++ x ∷ []) ≡ form cs xs +ℤ (get_or cs (length xs) (pos 0) *ℤ x)
 form-push [] [] x = sym (ap (λ (k : ℤ). pos 0 +ℤ k) (zero-*ℤ x))
@@ -55,12 +60,14 @@ form-push (c ∷ cs) (y ∷ xs) x =
     omega (arith, ints, e)
 
 -- the form with one carrier more
-pub partial-push : (kind : Kind) (ats : List (Option ℕ)) (t : List ℕ) (c : ℕ) → value_of kind (khzs_in ats (t ++ c ∷ [])) ≡ value_of kind (khzs_in ats t) +ℤ (get_or (coefficients_of kind) (length t) (pos 0) *ℤ pos (khz_in ats c))
+pub partial-push : (kind : Kind) (ats : List (Option ℕ)) (t : List ℕ) (c : ℕ) →
+    value_of kind (khzs_in ats (t ++ c ∷ [])) ≡ value_of kind (khzs_in ats t) +ℤ (get_or (coefficients_of kind) (length t) (pos 0) *ℤ pos (khz_in ats c))
 partial-push kind ats t c =
     let e : map pos (khzs_in ats (t ++ c ∷ [])) ≡ map pos (khzs_in ats t) ++ pos (khz_in ats c) ∷ [] =
     ap (map pos) (map-append (khz_in ats) t (c ∷ [])) ∙ map-append (λ f. pos f) (khzs_in ats t) (khz_in ats c ∷ []) in
     let n : length (map pos (khzs_in ats t)) ≡ length t = length-map (khzs_in ats t) (λ f. pos f) ∙ length-map t (khz_in ats) in
-    ap (form (coefficients_of kind)) e ∙ form-push (coefficients_of kind) (map pos (khzs_in ats t)) (pos (khz_in ats c)) ∙ ap (λ k. form (coefficients_of kind) (map pos (khzs_in ats t)) +ℤ (get_or (coefficients_of kind) k (pos 0) *ℤ pos (khz_in ats c))) n
+    ap (form (coefficients_of kind)) e ∙ form-push (coefficients_of kind) (map pos (khzs_in ats t)) (pos (khz_in ats c)) ∙
+    ap (λ k. form (coefficients_of kind) (map pos (khzs_in ats t)) +ℤ (get_or (coefficients_of kind) k (pos 0) *ℤ pos (khz_in ats c))) n
 
 pub khz-limited : (ats : List (Option ℕ)) (c : ℕ) → All IsLimited ats → khz_in ats c ≤ 10000000
 khz-limited ats c h =
@@ -78,12 +85,14 @@ partial-bound kind ats t small h =
     omega (arith, form-bound (coefficients_of kind) (khzs_in ats t) small fs, four_roles kind)
 
 -- a carrier's lane
-pub lane-is : (show : ShowData) (ats : List (Option ℕ)) (kind : Kind) (lanes : List Lane) (c : ℕ) (d : Lane) → lanes ≡ map (lane_of show ats kind) (upto (length ats)) → c < length ats → get_or lanes c d ≡ lane_of show ats kind c
+pub lane-is : (show : ShowData) (ats : List (Option ℕ)) (kind : Kind) (lanes : List Lane) (c : ℕ) (d : Lane) → lanes ≡ map (lane_of show ats kind) (upto (length ats)) →
+    c < length ats → get_or lanes c d ≡ lane_of show ats kind c
 lane-is show ats kind lanes c d e h =
     rw e (get_or-map (lane_of show ats kind) (upto (length ats)) c 0 d (omega (arith, length-upto (length ats), h)) ∙ ap (lane_of show ats kind) (get_or-upto (length ats) c 0 h))
 
 -- a lane's term is that of the last role
-pub lane-term : (show : ShowData) (ats : List (Option ℕ)) (kind : Kind) (t : List ℕ) (c : ℕ) → length t + 1 ≡ roles_of kind → (lane_of show ats kind c).term ≡ get_or (coefficients_of kind) (length t) (pos 0) *ℤ pos (khz_in ats c)
+pub lane-term : (show : ShowData) (ats : List (Option ℕ)) (kind : Kind) (t : List ℕ) (c : ℕ) → length t + 1 ≡ roles_of kind →
+    (lane_of show ats kind c).term ≡ get_or (coefficients_of kind) (length t) (pos 0) *ℤ pos (khz_in ats c)
 lane-term show ats kind t c n =
     let i : roles_of kind - 1 ≡ length t = omega (arith, n) in
     ap (λ k. get_or (coefficients_of kind) k (pos 0) *ℤ pos (khz_in ats c)) i
@@ -126,7 +135,8 @@ asked-past show kind c h =
     let e : slice_get show.carriers c ≡ None = slice_get_past show.carriers c h in
     ap (λ o. option_map_or (λ p. profile.margin_of p kind) (option_and_then (λ (x : Carrier). find (is_profile x.profile) show.profiles) o) 0) e
 
-pub nothing-asked : (show : ShowData) (ats : List (Option ℕ)) (kind : Kind) (t : List ℕ) → length ats ≡ length show.carriers → list_all (λ (l : Lane). l.needs == 0) (map (lane_of show ats kind) (upto (length ats))) ≡ true → margin_of show kind t ≡ 0
+pub nothing-asked : (show : ShowData) (ats : List (Option ℕ)) (kind : Kind) (t : List ℕ) → length ats ≡ length show.carriers →
+    list_all (λ (l : Lane). l.needs == 0) (map (lane_of show ats kind) (upto (length ats))) ≡ true → margin_of show kind t ≡ 0
 nothing-asked show ats kind t n h =
     let each : list_all (λ c. asked show kind c == 0) (upto (length ats)) ≡ true = sym (list_all-map (λ (l : Lane). l.needs == 0) (lane_of show ats kind) (upto (length ats))) ∙ h in
     margin-none show kind t (λ c. elim (cases_lt c (length ats)) [

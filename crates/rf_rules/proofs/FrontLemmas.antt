@@ -36,9 +36,11 @@ upto-value : (lo hi end : ℕ) (z : ℤ) → end ≤ hi → (is_between lo hi z 
 upto-value lo hi end (pos n) h = upto-at lo hi end n (nat_le n end) refl h
 upto-value lo hi end (negsuc n) h = refl
 
-pub sorted-upto : (lo hi end : ℕ) (all found some ys : List Product) → some ≡ filter (is_upto end) found → end ≤ hi → found ≡ filter (lies lo hi) all → IsNonDecreasingBy size_of ys → ((v : ℕ) → filter (has_size v) ys ≡ filter (has_size v) some) → IsPermutation some ys → ys ≡ values lo end all
+pub sorted-upto : (lo hi end : ℕ) (all found some ys : List Product) → some ≡ filter (is_upto end) found → end ≤ hi → found ≡ filter (lies lo hi) all →
+    IsNonDecreasingBy size_of ys → ((v : ℕ) → filter (has_size v) ys ≡ filter (has_size v) some) → IsPermutation some ys → ys ≡ values lo end all
 sorted-upto lo hi end all found some ys p h e up stable same =
-    sorted-values lo end all some ys (p ∙ ap (filter (is_upto end)) e ∙ filter-twice (is_upto end) (lies lo hi) all ∙ filter-same (λ q. lies lo hi q && is_upto end q) (lies lo end) all (λ q. upto-value lo hi end q.value h)) up stable same
+    sorted-values lo end all some ys (p ∙ ap (filter (is_upto end)) e ∙ filter-twice (is_upto end) (lies lo hi) all ∙
+    filter-same (λ q. lies lo hi q && is_upto end q) (lies lo end) all (λ q. upto-value lo hi end q.value h)) up stable same
 
 -- ---- the front
 
@@ -56,8 +58,11 @@ more-values : (lo end hi : ℕ) (all : List Product) → end ≤ hi → (zs : Li
 more-values lo end hi all h =
     let at : ℕ → List Product = λ v. filter (has_value v) all in
     let w = more-upto (end + 1 - lo) (hi + 1 - lo) (omega (arith, h)) in
-    let add : ℕ → ℕ = λ i. lo + i in
-    (flat_map at (map add w.0), ap (λ is. flat_map at (map add is)) w.1 ∙ ap (flat_map at) (map-append add (upto (end + 1 - lo)) w.0) ∙ flat_map-append at (map add (upto (end + 1 - lo))) (map add w.0))
+    let add : ℕ → ℕ = λ i. lo + i in (
+      flat_map at (map add w.0),
+      ap (λ is. flat_map at (map add is)) w.1 ∙ ap (flat_map at) (map-append add (upto (end + 1 - lo)) w.0) ∙
+          flat_map-append at (map add (upto (end + 1 - lo))) (map add w.0),
+    )
 
 pub shown-front : (lo end hi : ℕ) (all some : List Product) → end ≤ hi → some ≡ values lo end all → 10000 ≤ length some → shown_of some ≡ shown_of (values lo hi all)
 unfolding shown_of
@@ -68,7 +73,8 @@ shown-front lo end hi all some h e enough =
 
 -- ---- how many there are
 
-count-at : {X : Type 0} (p q r : X → Bool) (x : X) (xs : List X) (a b c : Bool) → p x ≡ a → q x ≡ b → r x ≡ c → (a || b) ≡ c → (a && b) ≡ false → length (filter p xs) + length (filter q xs) ≡ length (filter r xs) → length (filter p (x ∷ xs)) + length (filter q (x ∷ xs)) ≡ length (filter r (x ∷ xs))
+count-at : {X : Type 0} (p q r : X → Bool) (x : X) (xs : List X) (a b c : Bool) → p x ≡ a → q x ≡ b → r x ≡ c → (a || b) ≡ c → (a && b) ≡ false →
+    length (filter p xs) + length (filter q xs) ≡ length (filter r xs) → length (filter p (x ∷ xs)) + length (filter q (x ∷ xs)) ≡ length (filter r (x ∷ xs))
 count-at p q r x xs true true c e f g h k ih = cc
 count-at p q r x xs true false true e f g h k ih = rw (e, f, g) (omega (arith, ih))
 count-at p q r x xs true false false e f g h k ih = cc

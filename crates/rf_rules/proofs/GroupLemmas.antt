@@ -17,7 +17,8 @@ pub filter-same : {X : Type 0} (p q : X → Bool) (xs : List X) → ((x : X) →
 filter-same p q [] h = refl
 filter-same p q (x ∷ xs) h = rw (h x, filter-same p q xs h) refl
 
-filter-twice-at : {X : Type 0} (p q : X → Bool) (x : X) (xs : List X) (b : Bool) → q x ≡ b → filter p (filter q xs) ≡ filter (λ y. q y && p y) xs → filter p (filter q (x ∷ xs)) ≡ filter (λ y. q y && p y) (x ∷ xs)
+filter-twice-at : {X : Type 0} (p q : X → Bool) (x : X) (xs : List X) (b : Bool) → q x ≡ b → filter p (filter q xs) ≡ filter (λ y. q y && p y) xs →
+    filter p (filter q (x ∷ xs)) ≡ filter (λ y. q y && p y) (x ∷ xs)
 filter-twice-at p q x xs true e ih = rw (e, ih) refl
 filter-twice-at p q x xs false e ih = rw (e, ih) refl
 
@@ -43,7 +44,8 @@ pub filter-flat_map : {X Y : Type 0} (p : Y → Bool) (f : X → List Y) (xs : L
 filter-flat_map p f [] = refl
 filter-flat_map p f (x ∷ xs) = filter-append p (f x) (flat_map f xs) ∙ ap (λ zs. filter p (f x) ++ zs) (filter-flat_map p f xs)
 
-filter-map-at : {X Y : Type 0} (r : Y → Bool) (q : X → Bool) (f : X → Y) (x : X) (xs : List X) (a b : Bool) → q x ≡ a → r (f x) ≡ b → map f (filter (λ y. r (f y) && q y) xs) ≡ filter r (map f (filter q xs)) → map f (filter (λ y. r (f y) && q y) (x ∷ xs)) ≡ filter r (map f (filter q (x ∷ xs)))
+filter-map-at : {X Y : Type 0} (r : Y → Bool) (q : X → Bool) (f : X → Y) (x : X) (xs : List X) (a b : Bool) → q x ≡ a → r (f x) ≡ b →
+    map f (filter (λ y. r (f y) && q y) xs) ≡ filter r (map f (filter q xs)) → map f (filter (λ y. r (f y) && q y) (x ∷ xs)) ≡ filter r (map f (filter q (x ∷ xs)))
 filter-map-at r q f x xs true true e g ih = rw (e, g, ih) refl
 filter-map-at r q f x xs true false e g ih = rw (e, g, ih) refl
 filter-map-at r q f x xs false true e g ih = rw (e, g, ih) refl
@@ -65,7 +67,8 @@ groups-zero at lo xs = ap (λ is. flat_map (λ v. filter (at v) xs) (map (λ i. 
 
 pub groups-suc : {X : Type 0} (at : ℕ → X → Bool) (lo k : ℕ) (xs : List X) → groups at lo (suc k) xs ≡ groups at lo k xs ++ filter (at (lo + k)) xs
 groups-suc at lo k xs =
-    ap (λ j. groups at lo j xs) (sym (add-one k)) ∙ ap (flat_map (λ v. filter (at v) xs)) (map-upto (λ i. lo + i) k) ∙ flat_map-append (λ v. filter (at v) xs) (map (λ i. lo + i) (upto k)) ((lo + k) ∷ []) ∙ ap (λ zs. groups at lo k xs ++ zs) (append-nil (filter (at (lo + k)) xs))
+    ap (λ j. groups at lo j xs) (sym (add-one k)) ∙ ap (flat_map (λ v. filter (at v) xs)) (map-upto (λ i. lo + i) k) ∙
+    flat_map-append (λ v. filter (at v) xs) (map (λ i. lo + i) (upto k)) ((lo + k) ∷ []) ∙ ap (λ zs. groups at lo k xs ++ zs) (append-nil (filter (at (lo + k)) xs))
 
 -- the same groups of two lists
 pub groups-same : {X : Type 0} (at by : ℕ → X → Bool) (lo k : ℕ) (xs ys : List X) → ((i : ℕ) → i < k → filter (at (lo + i)) xs ≡ filter (by (lo + i)) ys) → groups at lo k xs ≡ groups by lo k ys
@@ -77,7 +80,8 @@ groups-same at by lo (suc k) xs ys h =
 tail-rises : {X : Type 0} (n : X → ℕ) (x : X) (xs : List X) → IsNonDecreasingBy n (x ∷ xs) → IsNonDecreasingBy n xs
 tail-rises n x xs h = λ i j d p q. h (suc i) (suc j) d (omega (arith, p)) (omega (arith, q))
 
-split-at : {X : Type 0} (n : X → ℕ) (m : ℕ) (x : X) (xs : List X) (b : Bool) → nat_lt (n x) m ≡ b → IsNonDecreasingBy n (x ∷ xs) → All (λ y. n y < suc m) (x ∷ xs) → filter (λ y. nat_lt (n y) m) xs ++ filter (λ y. n y == m) xs ≡ xs → filter (λ y. nat_lt (n y) m) (x ∷ xs) ++ filter (λ y. n y == m) (x ∷ xs) ≡ x ∷ xs
+split-at : {X : Type 0} (n : X → ℕ) (m : ℕ) (x : X) (xs : List X) (b : Bool) → nat_lt (n x) m ≡ b → IsNonDecreasingBy n (x ∷ xs) → All (λ y. n y < suc m) (x ∷ xs) →
+    filter (λ y. nat_lt (n y) m) xs ++ filter (λ y. n y == m) xs ≡ xs → filter (λ y. nat_lt (n y) m) (x ∷ xs) ++ filter (λ y. n y == m) (x ∷ xs) ≡ x ∷ xs
 split-at n m x xs true e up below ih =
     let not-m : (n x == m) ≡ false = grind (arith, nat_tests, e) in
     rw (e, not-m) (ap (λ zs. x ∷ zs) ih)
@@ -102,7 +106,8 @@ all-cons : {X : Type 0} (P : X → Type 0) (p : X → Bool) (x : X) (xs : List X
 all-cons P p x xs e h ih zero d q = (h, e)
 all-cons P p x xs e h ih (suc k) d q = ih k d (omega (arith, q))
 
-all-filter-at : {X : Type 0} (P : X → Type 0) (p : X → Bool) (x : X) (xs : List X) (b : Bool) → p x ≡ b → P x → All (λ y. P y × (p y ≡ true)) (filter p xs) → All (λ y. P y × (p y ≡ true)) (filter p (x ∷ xs))
+all-filter-at : {X : Type 0} (P : X → Type 0) (p : X → Bool) (x : X) (xs : List X) (b : Bool) → p x ≡ b → P x → All (λ y. P y × (p y ≡ true)) (filter p xs) →
+    All (λ y. P y × (p y ≡ true)) (filter p (x ∷ xs))
 all-filter-at P p x xs true e h ih = rw e (all-cons P p x (filter p xs) e h ih)
 all-filter-at P p x xs false e h ih = rw e ih
 
@@ -125,7 +130,11 @@ groups-rising n lo zero (x ∷ xs) up within = absurd (omega (arith, (within 0 x
 groups-rising n lo (suc k) xs up within =
     let m = lo + k in
     let low = filter (λ y. nat_lt (n y) m) xs in
-    let inside : All (λ y. (lo ≤ n y) × (n y < lo + k)) low = λ i d q. let w = all-filter (λ y. (lo ≤ n y) × (n y < lo + suc k)) (λ y. nat_lt (n y) m) xs within i d q in (w.0.0, grind (arith, nat_tests, w.1)) in
+    let inside : All (λ y. (lo ≤ n y) × (n y < lo + k)) low = λ i d q. let w = all-filter (λ y. (lo ≤ n y) × (n y < lo + suc k)) (λ y. nat_lt (n y) m) xs within i d q in
+    (w.0.0, grind (arith, nat_tests, w.1)) in
     let ih : groups (λ v y. n y == v) lo k low ≡ low = groups-rising n lo k low (IsNonDecreasingBy-filter n (λ y. nat_lt (n y) m) xs up) inside in
-    let same : groups (λ v y. n y == v) lo k xs ≡ groups (λ v y. n y == v) lo k low = groups-same (λ v y. n y == v) (λ v y. n y == v) lo k xs low (λ i p. sym (filter-twice (λ y. n y == (lo + i)) (λ y. nat_lt (n y) m) xs ∙ filter-same (λ y. nat_lt (n y) m && (n y == (lo + i))) (λ y. n y == (lo + i)) xs (λ y. below-too (n y) m (lo + i) (omega (arith, p))))) in
+    let same : groups (λ v y. n y == v) lo k xs ≡ groups (λ v y. n y == v) lo k low =
+    groups-same (λ v y. n y == v) (λ v y. n y == v) lo k xs low (λ i p. sym
+    (filter-twice (λ y. n y == (lo + i)) (λ y. nat_lt (n y) m) xs ∙
+    filter-same (λ y. nat_lt (n y) m && (n y == (lo + i))) (λ y. n y == (lo + i)) xs (λ y. below-too (n y) m (lo + i) (omega (arith, p))))) in
     groups-suc (λ v y. n y == v) lo k xs ∙ ap (λ zs. zs ++ filter (λ y. n y == m) xs) (same ∙ ih) ∙ split n m xs up (λ i d q. omega (arith, (within i d q).1))

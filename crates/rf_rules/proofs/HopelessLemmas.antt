@@ -1,17 +1,16 @@
 -- Carriers with which no instance begins.
-use Rattle.std.proofs.Common.{◌≡◌, ◌<◌, ◌≤◌, ℕ, Bool, true, false, List, [], ◌∷◌, ◌++◌, length, get_or, refl, ap, sym, ◌∙◌, arith}
-use Rattle.std.specs.Prelude.{Option, ◌&&◌, ◌||◌, ◌==◌, not, is_some, Some}
+use Rattle.std.proofs.Common.{◌≡◌, ◌<◌, ◌≤◌, ℕ, Bool, true, false, List, [], ◌∷◌, ◌++◌, refl, ap, sym, ◌∙◌, arith}
+use Rattle.std.specs.Prelude.{Option, ◌&&◌, ◌||◌, ◌==◌, not, is_some}
 use Rattle.std.specs.Bool.{OnTrue}
 use Rattle.std.specs.List.{list_all, list_any}
 use Rattle.std.proofs.lemmas.Bool.{true≢false}
 use Rattle.std.proofs.lemmas.Bool.Decides.{nat_tests}
-use Rattle.std.proofs.lemmas.List.{get_or_append_left, get_or_at}
 use Rattle.std.proofs.lemmas.List.Folds.{list_all-append, list_any-append}
 use Rattle.rf_terms.specs.Kinds.{roles_of}
 use Rattle.rf_terms.specs.declared.kind.Kind.{Kind}
 use Rattle.rf_show.specs.Show.{ShowData}
 use Rattle.rf_show.specs.Query.{are_joined}
-use Rattle.rf_rules.specs.Instances.{are_assigned, at_in, is_candidate, is_open, is_distinct, is_in_order, is_instance, stands_in_order}
+use Rattle.rf_rules.specs.Instances.{are_assigned, at_in, is_candidate, is_open, is_distinct, is_in_order, is_instance}
 
 and-false : (b : Bool) → (b && false) ≡ false
 and-false true = refl
@@ -32,7 +31,8 @@ and-second true b = refl
 and-second false b = refl
 
 -- one carrier more in front, by whether it is the one that stands twice
-twice-at : (x c : ℕ) (t u : List ℕ) (b : Bool) → (x == c) ≡ b → (list_any (λ y. y == c) t ≡ true → is_distinct (t ++ c ∷ u) ≡ false) → (b || list_any (λ y. y == c) t) ≡ true → (not (list_any (λ d. d == x) (t ++ c ∷ u)) && is_distinct (t ++ c ∷ u)) ≡ false
+twice-at : (x c : ℕ) (t u : List ℕ) (b : Bool) → (x == c) ≡ b → (list_any (λ y. y == c) t ≡ true → is_distinct (t ++ c ∷ u) ≡ false) → (b || list_any (λ y. y == c) t) ≡ true →
+    (not (list_any (λ d. d == x) (t ++ c ∷ u)) && is_distinct (t ++ c ∷ u)) ≡ false
 twice-at x c t u true e ih h =
     let same : (c == x) ≡ true = grind (arith, nat_tests, e) in
     let any : list_any (λ d. d == x) (t ++ c ∷ u) ≡ true = any-true (λ d. d == x) t u c same in
@@ -71,12 +71,6 @@ hopeless-twice show ats kind t u c h = no-candidate show ats kind (t ++ c ∷ u)
 pub hopeless-order : (show : ShowData) (ats : List (Option ℕ)) (kind : Kind) (t u : List ℕ) (c : ℕ) → is_in_order kind (t ++ c ∷ u) ≡ false → is_candidate show ats kind (t ++ c ∷ u) ≡ false
 hopeless-order show ats kind t u c h = no-candidate show ats kind (t ++ c ∷ u) (no-instance-order show kind (t ++ c ∷ u) h)
 
-pub out-of_order : (i j c : ℕ) (t u : List ℕ) → i < length t → j ≡ length t → c ≤ get_or t i 0 → stands_in_order (Some (i, j)) (t ++ c ∷ u) ≡ false
-out-of_order i j c t u h e p =
-    let a : get_or (t ++ c ∷ u) i 0 ≡ get_or t i 0 = get_or_append_left t (c ∷ u) 0 i h in
-    let b : get_or (t ++ c ∷ u) j 0 ≡ c = get_or_at t c u 0 j (sym e) in
-    rw (a, b) (grind (arith, nat_tests))
-
 -- ---- the last role, where the others are taken
 
 shuffle : (a d e c : Bool) → (not (a || (e || false)) && (d && not c)) ≡ ((not a && d) && not (e || c))
@@ -93,10 +87,12 @@ same-either a b = grind (arith, nat_tests)
 distinct-push : (t : List ℕ) (c : ℕ) → is_distinct (t ++ c ∷ []) ≡ (is_distinct t && not (list_any (λ d. d == c) t))
 distinct-push [] c = refl
 distinct-push (x ∷ t) c =
-    let more : list_any (λ d. d == x) (t ++ c ∷ []) ≡ (list_any (λ d. d == x) t || ((x == c) || false)) = list_any-append (λ d. d == x) t (c ∷ []) ∙ ap (λ b. list_any (λ d. d == x) t || (b || false)) (same-either c x) in
+    let more : list_any (λ d. d == x) (t ++ c ∷ []) ≡ (list_any (λ d. d == x) t || ((x == c) || false)) = list_any-append (λ d. d == x) t (c ∷ []) ∙
+    ap (λ b. list_any (λ d. d == x) t || (b || false)) (same-either c x) in
     rw (more, distinct-push t c) (shuffle (list_any (λ d. d == x) t) (is_distinct t) (x == c) (list_any (λ d. d == c) t))
 
-front-at : (x : ℕ) (t u : List ℕ) (a : Bool) → list_any (λ d. d == x) t ≡ a → (not a && is_distinct t) ≡ false → (is_distinct t ≡ false → is_distinct (t ++ u) ≡ false) → (not (list_any (λ d. d == x) (t ++ u)) && is_distinct (t ++ u)) ≡ false
+front-at : (x : ℕ) (t u : List ℕ) (a : Bool) → list_any (λ d. d == x) t ≡ a → (not a && is_distinct t) ≡ false → (is_distinct t ≡ false → is_distinct (t ++ u) ≡ false) →
+    (not (list_any (λ d. d == x) (t ++ u)) && is_distinct (t ++ u)) ≡ false
 front-at x t u true e h next =
     let any : list_any (λ d. d == x) (t ++ u) ≡ true = list_any-append (λ d. d == x) t u ∙ ap (λ b. b || list_any (λ d. d == x) u) e in
     rw any refl
@@ -112,7 +108,8 @@ open-both true false h = absurd (true≢false (sym h))
 open-both false d h = absurd (true≢false (sym h))
 
 -- an instance, as soon as the first roles are taken by carriers that are assigned and distinct
-pub last-joins : (show : ShowData) (ats : List (Option ℕ)) (kind : Kind) (t : List ℕ) (c : ℕ) → is_open ats t ≡ true → is_some (at_in ats c) ≡ true → list_any (λ d. d == c) t ≡ false → is_in_order kind (t ++ c ∷ []) ≡ true → are_joined show (roles_of kind) (t ++ c ∷ []) ≡ is_candidate show ats kind (t ++ c ∷ [])
+pub last-joins : (show : ShowData) (ats : List (Option ℕ)) (kind : Kind) (t : List ℕ) (c : ℕ) → is_open ats t ≡ true → is_some (at_in ats c) ≡ true →
+    list_any (λ d. d == c) t ≡ false → is_in_order kind (t ++ c ∷ []) ≡ true → are_joined show (roles_of kind) (t ++ c ∷ []) ≡ is_candidate show ats kind (t ++ c ∷ [])
 unfolding is_candidate is_instance
 last-joins show ats kind t c h some once ordered =
     let both = open-both (are_assigned ats t) (is_distinct t) h in

@@ -1,6 +1,6 @@
 -- Lemmas on the walk along two lists that makes one of them.
 use Rattle.std.proofs.Common.{◌≡◌, ◌≤◌, ◌<◌, ◌+◌, ◌-◌, ◌^◌, min, ℕ, suc, zero, Bool, true, false, List, [], ◌∷◌, ◌++◌, length, get_or, take, drop, refl, ap, sym, ◌∙◌, arith, drop-cons, add-one}
-use Rattle.std.proofs.lemmas.List.{append-nil, append_assoc, take_more}
+use Rattle.std.proofs.lemmas.List.{append_assoc, take_more}
 use Rattle.rf_rules.specs.Tallies.{Extends, shown_of}
 use Rattle.rf_rules.specs.declared.conflict.Conflict.{Conflict}
 use Rattle.rf_rules.specs.declared.tally.Tally.{Tally}
@@ -8,7 +8,8 @@ use Rattle.rf_rules.proofs.TallyLemmas.{both-more, none-more, same-more}
 use Rattle.rf_rules.specs.Merges.{ahead, behind, merge}
 use Rattle.rf_rules.proofs.CutLemmas.{merge-length, shown-merge}
 
-cons-at : {X : Type 0} (lt : X → X → Bool) (y x : X) (xs ys : List X) (b : Bool) → lt y x ≡ b → merge lt xs (y ∷ ys) ≡ ahead lt y xs ++ y ∷ merge lt (behind lt y xs) ys → merge lt (x ∷ xs) (y ∷ ys) ≡ ahead lt y (x ∷ xs) ++ y ∷ merge lt (behind lt y (x ∷ xs)) ys
+cons-at : {X : Type 0} (lt : X → X → Bool) (y x : X) (xs ys : List X) (b : Bool) → lt y x ≡ b → merge lt xs (y ∷ ys) ≡ ahead lt y xs ++ y ∷ merge lt (behind lt y xs) ys →
+    merge lt (x ∷ xs) (y ∷ ys) ≡ ahead lt y (x ∷ xs) ++ y ∷ merge lt (behind lt y (x ∷ xs)) ys
 unfolding merge
 cons-at lt y x xs ys true e ih = rw e refl
 cons-at lt y x xs ys false e ih = rw e (ap (λ zs. x ∷ zs) ih)
@@ -35,7 +36,9 @@ pub record Walked (lt : Conflict → Conflict → Bool) (kept found rest : List 
 pub walk-start : (lt : Conflict → Conflict → Bool) (kept found : List Conflict) (a : Tally) → Walked lt kept found kept 0 a a
 walk-start lt kept found a = record { done = []; extends = none-more a; same = refl }
 
-pub walk-more : (lt : Conflict → Conflict → Bool) (kept found rest next : List Conflict) (i : ℕ) (o : Conflict) (a b c d : Tally) → i < length found → Walked lt kept found rest i a b → Extends b c (ahead lt (get_or found i o) rest) → next ≡ behind lt (get_or found i o) rest → Extends c d (get_or found i o ∷ []) → Walked lt kept found next (i + 1) a d
+pub walk-more : (lt : Conflict → Conflict → Bool) (kept found rest next : List Conflict) (i : ℕ) (o : Conflict) (a b c d : Tally) → i < length found →
+    Walked lt kept found rest i a b → Extends b c (ahead lt (get_or found i o) rest) → next ≡ behind lt (get_or found i o) rest → Extends c d (get_or found i o ∷ []) →
+    Walked lt kept found next (i + 1) a d
 walk-more lt kept found rest next i o a b c d h w p e q =
     let y = get_or found i o in
     let more : drop i found ≡ y ∷ drop (i + 1) found = drop-cons found i o h ∙ ap (λ j. y ∷ drop j found) (sym (add-one i)) in
@@ -57,7 +60,9 @@ drop-past zero (x ∷ xs) h = absurd (omega (arith, h))
 drop-past (suc i) (x ∷ xs) h = drop-past i xs (omega (arith, h))
 
 -- what is counted at the end
-pub walk-end : (lt : Conflict → Conflict → Bool) (kept found rest all : List Conflict) (i more total : ℕ) (a b c d : Tally) → length found ≤ i → Walked lt kept found rest i a b → Extends b c rest → found ≡ shown_of all → total ≡ length all → more ≡ total - length found → length found ≤ total → d.shown.items ≡ c.shown.items → d.total ≡ min (c.total + more) (2 ^ 64 - 1) → Extends a d (merge lt kept all)
+pub walk-end : (lt : Conflict → Conflict → Bool) (kept found rest all : List Conflict) (i more total : ℕ) (a b c d : Tally) → length found ≤ i → Walked lt kept found rest i a b →
+    Extends b c rest → found ≡ shown_of all → total ≡ length all → more ≡ total - length found → length found ≤ total → d.shown.items ≡ c.shown.items →
+    d.total ≡ min (c.total + more) (2 ^ 64 - 1) → Extends a d (merge lt kept all)
 walk-end lt kept found rest all i more total a b c d h w p e f g few s t =
     let whole : w.done ++ rest ≡ merge lt kept found = ap (λ zs. w.done ++ zs) (sym (ap (merge lt rest) (drop-past i found h) ∙ merge-nil lt rest)) ∙ w.same in
     let q : Extends a c (merge lt kept found) = same-more a c _ _ whole (both-more a b c w.done rest w.extends p) in
@@ -82,42 +87,17 @@ ahead-no lt y x xs e = rw e refl
 behind-no : (lt : Conflict → Conflict → Bool) (y x : Conflict) (xs : List Conflict) → lt y x ≡ false → behind lt y (x ∷ xs) ≡ behind lt y xs
 behind-no lt y x xs e = rw e refl
 
-ahead-yes : (lt : Conflict → Conflict → Bool) (y x : Conflict) (xs : List Conflict) → lt y x ≡ true → ahead lt y (x ∷ xs) ≡ []
-ahead-yes lt y x xs e = rw e refl
-
-behind-yes : (lt : Conflict → Conflict → Bool) (y x : Conflict) (xs : List Conflict) → lt y x ≡ true → behind lt y (x ∷ xs) ≡ x ∷ xs
-behind-yes lt y x xs e = rw e refl
-
-pub ahead-more : (lt : Conflict → Conflict → Bool) (y d : Conflict) (kept : List Conflict) (i : ℕ) (a b c : Tally) → i < length kept → lt y (get_or kept i d) ≡ false → Ahead lt y kept i a b → Extends b c (get_or kept i d ∷ []) → Ahead lt y kept (i + 1) a c
+pub ahead-more : (lt : Conflict → Conflict → Bool) (y d : Conflict) (kept : List Conflict) (i : ℕ) (a b c : Tally) → i < length kept → lt y (get_or kept i d) ≡ false →
+    Ahead lt y kept i a b → Extends b c (get_or kept i d ∷ []) → Ahead lt y kept (i + 1) a c
 ahead-more lt y d kept i a b c h e w p =
     let x = get_or kept i d in
     let more : drop i kept ≡ x ∷ drop (i + 1) kept = drop-cons kept i d h ∙ ap (λ j. x ∷ drop j kept) (sym (add-one i)) in
     let up : take (i + 1) kept ≡ take i kept ++ x ∷ [] = take_more kept i d h in
     record {
       extends = same-more a c _ _ (sym up) (both-more a b c (take i kept) (x ∷ []) w.extends p);
-      ahead = w.ahead ∙ ap (λ zs. take i kept ++ ahead lt y zs) more ∙ ap (λ zs. take i kept ++ zs) (ahead-no lt y x (drop (i + 1) kept) e) ∙ sym (append_assoc (take i kept) (x ∷ []) (ahead lt y (drop (i + 1) kept))) ∙ ap (λ zs. zs ++ ahead lt y (drop (i + 1) kept)) (sym up);
+      ahead = w.ahead ∙ ap (λ zs. take i kept ++ ahead lt y zs) more ∙ ap (λ zs. take i kept ++ zs) (ahead-no lt y x (drop (i + 1) kept) e) ∙
+          sym (append_assoc (take i kept) (x ∷ []) (ahead lt y (drop (i + 1) kept))) ∙ ap (λ zs. zs ++ ahead lt y (drop (i + 1) kept)) (sym up);
       behind = w.behind ∙ ap (behind lt y) more ∙ behind-no lt y x (drop (i + 1) kept) e;
-    }
-
-pub record Parted (lt : Conflict → Conflict → Bool) (y : Conflict) (kept rest : List Conflict) (a b : Tally) : Type 0 where
-  pub extends : Extends a b (ahead lt y kept)
-  pub left : rest ≡ behind lt y kept
-
-pub part-stop : (lt : Conflict → Conflict → Bool) (y d : Conflict) (kept : List Conflict) (i : ℕ) (a b : Tally) → i < length kept → lt y (get_or kept i d) ≡ true → Ahead lt y kept i a b → Parted lt y kept (drop i kept) a b
-part-stop lt y d kept i a b h e w =
-    let x = get_or kept i d in
-    let more : drop i kept ≡ x ∷ drop (suc i) kept = drop-cons kept i d h in
-    record {
-      extends = same-more a b _ _ (sym (w.ahead ∙ ap (λ zs. take i kept ++ zs) (ap (ahead lt y) more ∙ ahead-yes lt y x (drop (suc i) kept) e) ∙ append-nil (take i kept))) w.extends;
-      left = more ∙ sym (w.behind ∙ ap (behind lt y) more ∙ behind-yes lt y x (drop (suc i) kept) e);
-    }
-
-pub part-end : (lt : Conflict → Conflict → Bool) (y : Conflict) (kept : List Conflict) (i : ℕ) (a b : Tally) → length kept ≤ i → Ahead lt y kept i a b → Parted lt y kept [] a b
-part-end lt y kept i a b h w =
-    let none = drop-past i kept h in
-    record {
-      extends = same-more a b _ _ (sym (w.ahead ∙ ap (λ zs. take i kept ++ ahead lt y zs) none ∙ append-nil (take i kept))) w.extends;
-      left = sym (w.behind ∙ ap (behind lt y) none);
     }
 
 pub all-more : (xs : List Conflict) (i : ℕ) (d : Conflict) (a b c : Tally) → i < length xs → Extends a b (take i xs) → Extends b c (get_or xs i d ∷ []) → Extends a c (take (i + 1) xs)

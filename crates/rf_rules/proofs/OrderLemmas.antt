@@ -58,7 +58,8 @@ block k xs (suc i) h =
     let e : begun k xs (upto (suc i)) ≡ begun k xs (upto i) ++ ts = begun-more k xs i in
     let up : IsRising stands_before ts = rising-map stands_before stands_before (λ t. i ∷ t) (tuples k xs) (λ s t. push-front i s t) h in
     let behind : Each (λ s. Each (Before stands_before s) ts) (begun k xs (upto i)) =
-    each-from (BeginsBelow i) (λ s. Each (Before stands_before s) ts) (begun k xs (upto i)) (λ s q. each-map (Before stands_before s) (λ t. i ∷ t) (tuples k xs) (each-all (λ t. Before stands_before s (i ∷ t)) (tuples k xs) (λ u. first-before i s u q))) b.below in
+    each-from (BeginsBelow i) (λ s. Each (Before stands_before s) ts) (begun k xs (upto i))
+    (λ s q. each-map (Before stands_before s) (λ t. i ∷ t) (tuples k xs) (each-all (λ t. Before stands_before s (i ∷ t)) (tuples k xs) (λ u. first-before i s u q))) b.below in
     let own : Each (BeginsBelow (suc i)) ts = each-map (BeginsBelow (suc i)) (λ t. i ∷ t) (tuples k xs) (each-all (λ t. i < suc i) (tuples k xs) (λ t. omega arith)) in
     let old : Each (BeginsBelow (suc i)) (begun k xs (upto i)) = each-from (BeginsBelow i) (BeginsBelow (suc i)) (begun k xs (upto i)) (λ s q. later i (suc i) s (omega arith) q) b.below in
     record {

@@ -46,7 +46,8 @@ carriers-same mask m n same =
 
 -- ---- lists of them
 
-filter-behind-at : {X Y : Type 0} (p : Y → Bool) (f : X → Y) (x : X) (xs : List X) (b : Bool) → p (f x) ≡ b → filter p (map f xs) ≡ map f (filter (λ y. p (f y)) xs) → filter p (map f (x ∷ xs)) ≡ map f (filter (λ y. p (f y)) (x ∷ xs))
+filter-behind-at : {X Y : Type 0} (p : Y → Bool) (f : X → Y) (x : X) (xs : List X) (b : Bool) → p (f x) ≡ b → filter p (map f xs) ≡ map f (filter (λ y. p (f y)) xs) →
+    filter p (map f (x ∷ xs)) ≡ map f (filter (λ y. p (f y)) (x ∷ xs))
 filter-behind-at p f x xs true e ih = rw e (ap (λ zs. f x ∷ zs) ih)
 filter-behind-at p f x xs false e ih = rw e ih
 
@@ -73,12 +74,14 @@ without mask p (suc k) xs none =
     ap (filter p) (tuples-suc k xs)
     ∙ filter-flat_map p (λ x. map (push x) (tuples k xs)) xs
     ∙ flat-only was (is_out mask) xs (each-all (λ x. is_out mask x ≡ false → was x ≡ []) xs
-    (λ x out. filter-empty p (map (push x) (tuples k xs)) (each-map (λ t. p t ≡ false) (push x) (tuples k xs) (each-all (λ t. p (x ∷ t) ≡ false) (tuples k xs) (λ t. none (x ∷ t) (first-met mask x t (has_bit mask x) refl out))))))
+    (λ x out. filter-empty p (map (push x) (tuples k xs)) (each-map (λ t. p t ≡ false) (push x) (tuples k xs)
+    (each-all (λ t. p (x ∷ t) ≡ false) (tuples k xs) (λ t. none (x ∷ t) (first-met mask x t (has_bit mask x) refl out))))))
     ∙ flat-same was is ys (λ x. filter-behind p (push x) (tuples k xs)
     ∙ ap (map (push x)) (without mask (λ t. p (x ∷ t)) k xs (λ t h. none (x ∷ t) (or-true (has_bit mask x) (meets mask t) h)))
     ∙ sym (filter-behind p (push x) (tuples k ys)))
     ∙ sym (ap (filter p) (tuples-suc k ys) ∙ filter-flat_map p (λ x. map (push x) (tuples k ys)) ys)
 
-pub tuples-same : (mask m n : ℕ) (p : List ℕ → Bool) (k : ℕ) → ((c : ℕ) → has_bit mask c ≡ false → nat_lt c m ≡ nat_lt c n) → ((t : List ℕ) → meets mask t ≡ true → p t ≡ false) → filter p (tuples k (upto m)) ≡ filter p (tuples k (upto n))
+pub tuples-same : (mask m n : ℕ) (p : List ℕ → Bool) (k : ℕ) → ((c : ℕ) → has_bit mask c ≡ false → nat_lt c m ≡ nat_lt c n) → ((t : List ℕ) → meets mask t ≡ true → p t ≡ false) →
+    filter p (tuples k (upto m)) ≡ filter p (tuples k (upto n))
 tuples-same mask m n p k same none =
     without mask p k (upto m) none ∙ ap (λ xs. filter p (tuples k xs)) (carriers-same mask m n same) ∙ sym (without mask p k (upto n) none)

@@ -1,5 +1,41 @@
 -- Lemmas on cells of values, and on carriers in the last role but one with which nothing is broken.
-use Rattle.std.proofs.Common.{◌≡◌, ◌≤◌, ◌<◌, ◌+◌, ◌-◌, ◌*◌, ◌/◌, ◌%◌, ℕ, ℤ, suc, zero, pos, ◌+ℤ◌, ◌-ℤ◌, ◌*ℤ◌, unsigned_abs, Bool, true, false, List, [], ◌∷◌, ◌++◌, length, get_or, refl, ap, sym, ◌∙◌, arith, add-one, inl, inr, ◌⊎◌}
+use Rattle.std.proofs.Common.{
+  ◌≡◌,
+  ◌≤◌,
+  ◌<◌,
+  ◌+◌,
+  ◌-◌,
+  ◌*◌,
+  ◌/◌,
+  ◌%◌,
+  ℕ,
+  ℤ,
+  suc,
+  zero,
+  pos,
+  ◌+ℤ◌,
+  ◌-ℤ◌,
+  ◌*ℤ◌,
+  unsigned_abs,
+  Bool,
+  true,
+  false,
+  List,
+  [],
+  ◌∷◌,
+  ◌++◌,
+  length,
+  get_or,
+  refl,
+  ap,
+  sym,
+  ◌∙◌,
+  arith,
+  add-one,
+  inl,
+  inr,
+  ◌⊎◌,
+}
 use Rattle.std.proofs.lemmas.Int.{ints}
 use Rattle.std.proofs.lemmas.List.{append_assoc, length-append}
 use Rattle.std.proofs.lemmas.Bool.{true≢false, cases_lt}
@@ -58,10 +94,12 @@ stays old new i carrier j other m h =
 pub covers-kept : (old new : Pairings) (i carrier other : ℕ) (value : ℤ) → Marks old new i carrier → Covers old other value → Covers new other value
 covers-kept old new i carrier other value m h = λ product small near.
     let n : unsigned_abs (product +ℤ value) < old.width = omega (arith, near, m.width) in
-    let s : has_bit (cell new (unsigned_abs (product +ℤ pos 640000000) / old.width + 1)) other ≡ true = stays old new i carrier (unsigned_abs (product +ℤ pos 640000000) / old.width + 1) other m (h product small n) in
+    let s : has_bit (cell new (unsigned_abs (product +ℤ pos 640000000) / old.width + 1)) other ≡ true =
+    stays old new i carrier (unsigned_abs (product +ℤ pos 640000000) / old.width + 1) other m (h product small n) in
     rw m.width s
 
-pub covers-made : (a b c d : Pairings) (carrier z : ℕ) (value : ℤ) → 0 < a.width → unsigned_abs value ≤ 640000000 → z ≡ unsigned_abs (pos 640000000 -ℤ value) / a.width → Marks a b z carrier → Marks b c (z + 1) carrier → Marks c d (z + 2) carrier → Covers d carrier value
+pub covers-made : (a b c d : Pairings) (carrier z : ℕ) (value : ℤ) → 0 < a.width → unsigned_abs value ≤ 640000000 → z ≡ unsigned_abs (pos 640000000 -ℤ value) / a.width →
+    Marks a b z carrier → Marks b c (z + 1) carrier → Marks c d (z + 2) carrier → Covers d carrier value
 covers-made a b c d carrier z value h small e k l m = λ product low near.
     let w : d.width ≡ a.width = omega (arith, k.width, l.width, m.width) in
     let n : unsigned_abs (product +ℤ value) < a.width = omega (arith, near, w) in
@@ -78,7 +116,8 @@ covers-made a b c d carrier z value h small e k l m = λ product low near.
 
 -- ---- what isn't broken
 
-blank-begun : {Y : Type 0} (f : List ℕ → Y) (p : List ℕ → Bool) (t : List ℕ) (k n i : ℕ) → i ≤ n → ((c : ℕ) → c < n → found_in f p (t ++ c ∷ []) (tuples k (upto n)) ≡ []) → found_in f p t (begun k (upto n) (upto i)) ≡ []
+blank-begun : {Y : Type 0} (f : List ℕ → Y) (p : List ℕ → Bool) (t : List ℕ) (k n i : ℕ) → i ≤ n → ((c : ℕ) → c < n → found_in f p (t ++ c ∷ []) (tuples k (upto n)) ≡ []) →
+    found_in f p t (begun k (upto n) (upto i)) ≡ []
 blank-begun f p t k n zero q h = found-start f p t k n
 blank-begun f p t k n (suc i) q h =
     let before : found_in f p t (begun k (upto n) (upto i)) ≡ [] = blank-begun f p t k n i (omega (arith, q)) h in
@@ -86,7 +125,8 @@ blank-begun f p t k n (suc i) q h =
     ap (λ j. found_in f p t (begun k (upto n) (upto j))) (sym (add-one i)) ∙ sym (found-more f p t k n i) ∙ ap (λ zs. zs ++ found_in f p (t ++ i ∷ []) (tuples k (upto n))) before ∙ own
 
 -- nothing is found where nothing is with any carrier in the next role
-pub blank-all : {Y : Type 0} (f : List ℕ → Y) (p : List ℕ → Bool) (t : List ℕ) (k n : ℕ) → ((c : ℕ) → c < n → found_in f p (t ++ c ∷ []) (tuples k (upto n)) ≡ []) → found_in f p t (tuples (suc k) (upto n)) ≡ []
+pub blank-all : {Y : Type 0} (f : List ℕ → Y) (p : List ℕ → Bool) (t : List ℕ) (k n : ℕ) → ((c : ℕ) → c < n → found_in f p (t ++ c ∷ []) (tuples k (upto n)) ≡ []) →
+    found_in f p t (tuples (suc k) (upto n)) ≡ []
 blank-all f p t k n h = sym (found-end f p t k n n refl) ∙ blank-begun f p t k n n (omega arith) h
 
 any-asked : (s : Search) (width c : ℕ) → IsReady s → ((d : ℕ) → d < length s.ats.now → asked s.show.now s.kind d ≤ width) → asked s.show.now s.kind c ≤ width
@@ -100,16 +140,22 @@ whole : (s : Search) (t : List ℕ) (c d : ℕ) → length t + 2 ≡ roles_of s.
 whole s t c d n =
     let long : length (t ++ c ∷ []) + 1 ≡ roles_of s.kind = omega (arith, length-append t (c ∷ []), n) in
     let i : length t ≡ roles_of s.kind - 2 = omega (arith, n) in
-    let last : (lane_of s.show.now s.ats.now s.kind d).term ≡ get_or (coefficients_of s.kind) (length (t ++ c ∷ [])) (pos 0) *ℤ pos (khz_in s.ats.now d) = lane-term s.show.now s.ats.now s.kind (t ++ c ∷ []) d long in
-    let own : get_or (coefficients_of s.kind) (length t) (pos 0) *ℤ pos (khz_in s.ats.now c) ≡ get_or (coefficients_of s.kind) (roles_of s.kind - 2) (pos 0) *ℤ pos (khz_in s.ats.now c) = ap (λ k. get_or (coefficients_of s.kind) k (pos 0) *ℤ pos (khz_in s.ats.now c)) i in
+    let last : (lane_of s.show.now s.ats.now s.kind d).term ≡ get_or (coefficients_of s.kind) (length (t ++ c ∷ [])) (pos 0) *ℤ pos (khz_in s.ats.now d) =
+    lane-term s.show.now s.ats.now s.kind (t ++ c ∷ []) d long in
+    let own : get_or (coefficients_of s.kind) (length t) (pos 0) *ℤ pos (khz_in s.ats.now c) ≡
+    get_or (coefficients_of s.kind) (roles_of s.kind - 2) (pos 0) *ℤ pos (khz_in s.ats.now c) = ap (λ k. get_or (coefficients_of s.kind) k (pos 0) *ℤ pos (khz_in s.ats.now c)) i in
     omega (arith, ints, partial-push s.kind s.ats.now (t ++ c ∷ []) d, partial-push s.kind s.ats.now t c, last, own)
 
-far : (s : Search) (p : Pairings) (t : List ℕ) (c d : ℕ) → IsReady s → ((e : ℕ) → e < length s.ats.now → asked s.show.now s.kind e ≤ p.width) → length t + 2 ≡ roles_of s.kind → d < length s.ats.now → Covers p c (pair_value s c d) → has_bit (mask_near p (partial_of s t)) c ≡ false → margin_of s.show.now s.kind ((t ++ c ∷ []) ++ d ∷ []) ≤ distance_of s.ats.now s.kind ((t ++ c ∷ []) ++ d ∷ [])
+far : (s : Search) (p : Pairings) (t : List ℕ) (c d : ℕ) → IsReady s → ((e : ℕ) → e < length s.ats.now → asked s.show.now s.kind e ≤ p.width) → length t + 2 ≡ roles_of s.kind →
+    d < length s.ats.now → Covers p c (pair_value s c d) → has_bit (mask_near p (partial_of s t)) c ≡ false →
+    margin_of s.show.now s.kind ((t ++ c ∷ []) ++ d ∷ []) ≤ distance_of s.ats.now s.kind ((t ++ c ∷ []) ++ d ∷ [])
 far s p t c d r wide n j covered out =
     let long : length (t ++ c ∷ []) + 1 ≡ roles_of s.kind = omega (arith, length-append t (c ∷ []), n) in
     let first = get_or (t ++ c ∷ []) 0 0 in
-    let m : margin_of s.show.now s.kind ((t ++ c ∷ []) ++ d ∷ []) ≤ p.width = omega (arith, margin-push s.show.now s.kind (t ++ c ∷ []) d long, first-le s.show.now s.kind first, any-asked s p.width first r wide, wide d j) in
-    let e : unsigned_abs (partial_of s t +ℤ pair_value s c d) ≡ distance_of s.ats.now s.kind ((t ++ c ∷ []) ++ d ∷ []) = distance-is s.kind s.ats.now ((t ++ c ∷ []) ++ d ∷ []) (partial_of s t +ℤ pair_value s c d) (sym (whole s t c d n)) in
+    let m : margin_of s.show.now s.kind ((t ++ c ∷ []) ++ d ∷ []) ≤ p.width =
+    omega (arith, margin-push s.show.now s.kind (t ++ c ∷ []) d long, first-le s.show.now s.kind first, any-asked s p.width first r wide, wide d j) in
+    let e : unsigned_abs (partial_of s t +ℤ pair_value s c d) ≡ distance_of s.ats.now s.kind ((t ++ c ∷ []) ++ d ∷ []) =
+    distance-is s.kind s.ats.now ((t ++ c ∷ []) ++ d ∷ []) (partial_of s t +ℤ pair_value s c d) (sym (whole s t c d n)) in
     elim (cases_lt (unsigned_abs (partial_of s t +ℤ pair_value s c d)) p.width) [
       | inl q ↦ absurd (true≢false (sym (covered (partial_of s t) (ready-bound s t r) q) ∙ out))
       | inr q ↦ omega (arith, m, e, q)
@@ -138,14 +184,16 @@ unbroken s p t c d r wide n j covered out =
     (λ e f. broken-far s.show.now s.ats.now s.kind ((t ++ c ∷ []) ++ d ∷ []) (far s p t c d r wide n j (covered e f) out))
 
 -- nothing is broken with a carrier in the last role but one that stands in no cell near
-pub quiet-second : (s : Search) (p : Pairings) (t : List ℕ) (c : ℕ) → IsReady s → HasPairs p s → length t + 2 ≡ roles_of s.kind → c < length s.ats.now → has_bit (mask_near p (partial_of s t)) c ≡ false → broken_in s (t ++ c ∷ []) (tuples 1 (upto (length s.ats.now))) ≡ []
+pub quiet-second : (s : Search) (p : Pairings) (t : List ℕ) (c : ℕ) → IsReady s → HasPairs p s → length t + 2 ≡ roles_of s.kind → c < length s.ats.now →
+    has_bit (mask_near p (partial_of s t)) c ≡ false → broken_in s (t ++ c ∷ []) (tuples 1 (upto (length s.ats.now))) ≡ []
 quiet-second s p t c r h n i out =
     let many = length s.ats.now in
     blank-all _ _ (t ++ c ∷ []) 0 many (λ d j.
     ap (broken_in s ((t ++ c ∷ []) ++ d ∷ [])) (tuples-zero (upto many)) ∙ found-at_none _ _ ((t ++ c ∷ []) ++ d ∷ []) (unbroken s p t c d r h.wide n j (h.pairs c d i j) out))
 
 -- one carrier more in the next role, with which nothing is broken
-pub step-quiet : (s : Search) (t : List ℕ) (k j n i : ℕ) (a b : Tally) → k ≡ j → Extends a b (broken_in s t (begun j (upto n) (upto i))) → broken_in s (t ++ i ∷ []) (tuples k (upto n)) ≡ [] → Extends a b (broken_in s t (begun j (upto n) (upto (i + 1))))
+pub step-quiet : (s : Search) (t : List ℕ) (k j n i : ℕ) (a b : Tally) → k ≡ j → Extends a b (broken_in s t (begun j (upto n) (upto i))) →
+    broken_in s (t ++ i ∷ []) (tuples k (upto n)) ≡ [] → Extends a b (broken_in s t (begun j (upto n) (upto (i + 1))))
 step-quiet s t k j n i a b e h none =
     let now : broken_in s (t ++ i ∷ []) (tuples j (upto n)) ≡ [] = rw e at none in
     step-more s t j n i a b b h (same-more b b _ _ (sym now) (none-more b))

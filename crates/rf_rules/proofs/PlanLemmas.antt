@@ -151,17 +151,20 @@ any-empty p xs = ap (list_any p) (tuples-zero xs) ∙ or-false (p [])
 list-out : (p : List ℕ → Bool) (n : ℕ) (t : List ℕ) → All (λ c. c < n) t → list_any p (tuples (length t) (upto n)) ≡ false → p t ≡ false
 list-out p n [] below h = sym (any-empty p (upto n)) ∙ h
 list-out p n (c ∷ t) below h =
-    list-out (λ u. p (c ∷ u)) n t (λ k d low. below (suc k) d (omega (arith, low))) (any-out (λ x. list_any (λ u. p (x ∷ u)) (tuples (length t) (upto n))) n c (sym (any-first p (length t) (upto n)) ∙ h) (below 0 c (omega arith)))
+    list-out (λ u. p (c ∷ u)) n t (λ k d low. below (suc k) d (omega (arith, low)))
+    (any-out (λ x. list_any (λ u. p (x ∷ u)) (tuples (length t) (upto n))) n c (sym (any-first p (length t) (upto n)) ∙ h) (below 0 c (omega arith)))
 
 list-none : (p : List ℕ → Bool) (n k : ℕ) → ((t : List ℕ) → length t ≡ k → All (λ c. c < n) t → p t ≡ false) → list_any p (tuples k (upto n)) ≡ false
 list-none p n zero h = any-empty p (upto n) ∙ h [] refl (λ k d low. absurd (omega (arith, low)))
 list-none p n (suc k) h =
-    any-first p k (upto n) ∙ any-none (λ c. list_any (λ u. p (c ∷ u)) (tuples k (upto n))) n (λ c low. list-none (λ u. p (c ∷ u)) n k (λ t e below. h (c ∷ t) (ap suc e) (All-cons (λ d. d < n) c t low below)))
+    any-first p k (upto n) ∙ any-none (λ c. list_any (λ u. p (c ∷ u)) (tuples k (upto n))) n
+    (λ c low. list-none (λ u. p (c ∷ u)) n k (λ t e below. h (c ∷ t) (ap suc e) (All-cons (λ d. d < n) c t low below)))
 
 -- ---- broken instances
 
 -- by the next role's carrier
-pub breaks-next : (show : ShowData) (ats : List (Option ℕ)) (kind : Kind) (t : List ℕ) (k j : ℕ) → suc k ≡ j → list_any (λ c. breaks_from show ats kind (t ++ c ∷ []) k) (upto (length ats)) ≡ breaks_from show ats kind t j
+pub breaks-next : (show : ShowData) (ats : List (Option ℕ)) (kind : Kind) (t : List ℕ) (k j : ℕ) → suc k ≡ j →
+    list_any (λ c. breaks_from show ats kind (t ++ c ∷ []) k) (upto (length ats)) ≡ breaks_from show ats kind t j
 breaks-next show ats kind t k j e =
     let xs = upto (length ats) in
     any-same (λ c. breaks_from show ats kind (t ++ c ∷ []) k) (λ c. list_any (λ u. is_broken show ats kind (t ++ c ∷ u)) (tuples k xs)) xs
@@ -172,9 +175,11 @@ breaks-next show ats kind t k j e =
 pub breaks-last : (show : ShowData) (ats : List (Option ℕ)) (kind : Kind) (t : List ℕ) → breaks_from show ats kind t 0 ≡ is_broken show ats kind t
 breaks-last show ats kind t = any-empty (λ u. is_broken show ats kind (t ++ u)) (upto (length ats)) ∙ ap (is_broken show ats kind) (append-nil t)
 
-pub breaks-hopeless : (show : ShowData) (ats : List (Option ℕ)) (kind : Kind) (t : List ℕ) (c k : ℕ) → ((u : List ℕ) → is_candidate show ats kind (t ++ c ∷ u) ≡ false) → breaks_from show ats kind (t ++ c ∷ []) k ≡ false
+pub breaks-hopeless : (show : ShowData) (ats : List (Option ℕ)) (kind : Kind) (t : List ℕ) (c k : ℕ) → ((u : List ℕ) → is_candidate show ats kind (t ++ c ∷ u) ≡ false) →
+    breaks_from show ats kind (t ++ c ∷ []) k ≡ false
 breaks-hopeless show ats kind t c k h =
-    any-no (λ u. is_broken show ats kind ((t ++ c ∷ []) ++ u)) (tuples k (upto (length ats))) (λ u. ap (is_broken show ats kind) (append_assoc t (c ∷ []) u) ∙ broken-no_candidate show ats kind (t ++ c ∷ u) (h u))
+    any-no (λ u. is_broken show ats kind ((t ++ c ∷ []) ++ u)) (tuples k (upto (length ats)))
+    (λ u. ap (is_broken show ats kind) (append_assoc t (c ∷ []) u) ∙ broken-no_candidate show ats kind (t ++ c ∷ u) (h u))
 
 all-no : {X : Type 0} (q : X → Bool) (xs : List X) → list_any q xs ≡ false → (x : X) → Contains xs x → q x ≡ false
 all-no q xs h x there = All-contains (λ y. q y ≡ false) xs x (each-no q xs h) there
@@ -186,16 +191,19 @@ kinds-out q kind h = all-no q kinds h kind (kind_listed kind)
 pub kinds-none : (q : Kind → Bool) (some : List Kind) → ((kind : Kind) → q kind ≡ false) → list_any q some ≡ false
 kinds-none q some h = any-no q some h
 
-pub broken-out : (show : ShowData) (ats : List (Option ℕ)) (kind : Kind) (t : List ℕ) → length t ≡ roles_of kind → All (λ c. c < length ats) t → has_broken show ats kind ≡ false → is_broken show ats kind t ≡ false
+pub broken-out : (show : ShowData) (ats : List (Option ℕ)) (kind : Kind) (t : List ℕ) → length t ≡ roles_of kind → All (λ c. c < length ats) t → has_broken show ats kind ≡ false →
+    is_broken show ats kind t ≡ false
 broken-out show ats kind t e below h = list-out (is_broken show ats kind) (length ats) t below (ap (λ k. list_any (is_broken show ats kind) (tuples k (upto (length ats)))) e ∙ h)
 
-pub broken-none : (show : ShowData) (ats : List (Option ℕ)) (kind : Kind) → ((t : List ℕ) → length t ≡ roles_of kind → All (λ c. c < length ats) t → is_broken show ats kind t ≡ false) → has_broken show ats kind ≡ false
+pub broken-none : (show : ShowData) (ats : List (Option ℕ)) (kind : Kind) →
+    ((t : List ℕ) → length t ≡ roles_of kind → All (λ c. c < length ats) t → is_broken show ats kind t ≡ false) → has_broken show ats kind ≡ false
 broken-none show ats kind h = list-none (is_broken show ats kind) (length ats) (roles_of kind) h
 
 -- ---- plans
 
 -- a channel that is allowed is there
-known-at : (of : Option Profile) (f : ℕ → Bool) (k : ℕ) → option_map_or f (option_and_then (λ (p : Profile). slice_get (channels p.channels) k) of) false ≡ true → k < length (option_map_or (λ (p : Profile). channels p.channels) of [])
+known-at : (of : Option Profile) (f : ℕ → Bool) (k : ℕ) → option_map_or f (option_and_then (λ (p : Profile). slice_get (channels p.channels) k) of) false ≡ true →
+    k < length (option_map_or (λ (p : Profile). channels p.channels) of [])
 known-at None f k h = absurd (true≢false (sym h))
 known-at (Some p) f k h =
     elim (cases_lt k (length (channels p.channels))) [
@@ -215,7 +223,8 @@ pub plan-forbidden : (show : ShowData) (plan : List ℕ) → list_all (λ c. is_
 plan-forbidden show plan h =
     ((λ no. absurd (true≢false (sym no))), (λ p. absurd (true≢false (sym (each-all (λ c. is_allowed show c (slice_index plan c)) (length plan) p.allowed) ∙ h))))
 
-pub plan-judged : (show : ShowData) (plan : List ℕ) (broken : Bool) → length plan ≡ length show.carriers → list_all (λ c. is_allowed show c (slice_index plan c)) (upto (length plan)) ≡ true → broken ≡ list_any (has_broken show (planned show plan)) kinds → IsTrue (not broken) ↔ IsPlan show plan
+pub plan-judged : (show : ShowData) (plan : List ℕ) (broken : Bool) → length plan ≡ length show.carriers →
+    list_all (λ c. is_allowed show c (slice_index plan c)) (upto (length plan)) ≡ true → broken ≡ list_any (has_broken show (planned show plan)) kinds → IsTrue (not broken) ↔ IsPlan show plan
 plan-judged show plan true full allowed e =
     ((λ no. absurd (true≢false (sym no))), (λ p. absurd (true≢false (e ∙ kinds-none (has_broken show (planned show plan)) kinds (λ kind. broken-none show (planned show plan) kind (p.kept kind))))))
 plan-judged show plan false full allowed e =

@@ -36,24 +36,28 @@ pub noted-no_candidate : (show : ShowData) (ats : List (Option ℕ)) (kind : Kin
 unfolding is_noted
 noted-no_candidate show ats kind lo hi t h = rw h (and-false (is_between lo hi (product_of ats kind t)))
 
-pub noted-both : (show : ShowData) (ats : List (Option ℕ)) (kind : Kind) (lo hi : ℕ) (t : List ℕ) → is_between lo hi (product_of ats kind t) ≡ true → is_candidate show ats kind t ≡ true → is_noted show ats kind lo hi t ≡ true
+pub noted-both : (show : ShowData) (ats : List (Option ℕ)) (kind : Kind) (lo hi : ℕ) (t : List ℕ) → is_between lo hi (product_of ats kind t) ≡ true →
+    is_candidate show ats kind t ≡ true → is_noted show ats kind lo hi t ≡ true
 unfolding is_noted
 noted-both show ats kind lo hi t h p = rw (h, p) refl
 
 -- sources of which one has no frequency, or stands twice
 pub noted-closed : (s : Search) (lo hi : ℕ) (t : List ℕ) (k : ℕ) (xs : List Product) → is_open s.ats.now t ≡ false → xs ≡ xs ++ noted_in s lo hi t (tuples k (upto (length s.ats.now)))
 noted-closed s lo hi t k xs h =
-    let none = found-none (product_at s.ats.now s.kind) (is_noted s.show.now s.ats.now s.kind lo hi) t (tuples k (upto (length s.ats.now))) (λ u. noted-no_candidate s.show.now s.ats.now s.kind lo hi (t ++ u) (closed s.show.now s.ats.now s.kind t u h)) in
+    let none = found-none (product_at s.ats.now s.kind) (is_noted s.show.now s.ats.now s.kind lo hi) t (tuples k (upto (length s.ats.now)))
+    (λ u. noted-no_candidate s.show.now s.ats.now s.kind lo hi (t ++ u) (closed s.show.now s.ats.now s.kind t u h)) in
     sym (ap (λ zs. xs ++ zs) none ∙ append-nil xs)
 
 -- sources that are not noted
 pub note-none : (s : Search) (lo hi : ℕ) (t : List ℕ) (xs : List Product) → is_noted s.show.now s.ats.now s.kind lo hi t ≡ false → xs ≡ xs ++ noted_in s lo hi t ([] ∷ [])
 note-none s lo hi t xs h = sym (ap (λ zs. xs ++ zs) (found-at_none (product_at s.ats.now s.kind) (is_noted s.show.now s.ats.now s.kind lo hi) t h) ∙ append-nil xs)
 
-pub note-one : (s : Search) (lo hi : ℕ) (t : List ℕ) (xs : List Product) (p : Product) → is_noted s.show.now s.ats.now s.kind lo hi t ≡ true → p ≡ product_at s.ats.now s.kind t → xs ++ p ∷ [] ≡ xs ++ noted_in s lo hi t ([] ∷ [])
+pub note-one : (s : Search) (lo hi : ℕ) (t : List ℕ) (xs : List Product) (p : Product) → is_noted s.show.now s.ats.now s.kind lo hi t ≡ true → p ≡ product_at s.ats.now s.kind t →
+    xs ++ p ∷ [] ≡ xs ++ noted_in s lo hi t ([] ∷ [])
 note-one s lo hi t xs p h e = ap (λ q. xs ++ q ∷ []) e ∙ ap (λ zs. xs ++ zs) (sym (found-one (product_at s.ats.now s.kind) (is_noted s.show.now s.ats.now s.kind lo hi) t h))
 
-pub product-is : (ats : List (Option ℕ)) (kind : Kind) (t sources : List ℕ) (value : ℤ) → value ≡ product_of ats kind t → sources ≡ (product_at ats kind t).sources → ◌≡◌ {A = Product} (record { value = value; kind = kind; sources = sources }) (product_at ats kind t)
+pub product-is : (ats : List (Option ℕ)) (kind : Kind) (t sources : List ℕ) (value : ℤ) → value ≡ product_of ats kind t → sources ≡ (product_at ats kind t).sources →
+    ◌≡◌ {A = Product} (record { value = value; kind = kind; sources = sources }) (product_at ats kind t)
 product-is ats kind t sources value e f = rw (e, f) refl
 
 pub sources-last : (s : Search) (lo hi : ℕ) (t : List ℕ) (k : ℕ) → k ≡ 0 → noted_in s lo hi t ([] ∷ []) ≡ noted_in s lo hi t (tuples k (upto (length s.ats.now)))
@@ -62,17 +66,22 @@ sources-last s lo hi t k e = sym (ap (λ j. noted_in s lo hi t (tuples j (upto (
 pub sources-start : (s : Search) (lo hi : ℕ) (t : List ℕ) (k n : ℕ) (xs : List Product) → xs ≡ xs ++ noted_in s lo hi t (begun k (upto n) (upto 0))
 sources-start s lo hi t k n xs = sym (ap (λ zs. xs ++ zs) (found-start (product_at s.ats.now s.kind) (is_noted s.show.now s.ats.now s.kind lo hi) t k n) ∙ append-nil xs)
 
-pub sources-more : (s : Search) (lo hi : ℕ) (t : List ℕ) (k n i : ℕ) (xs ys zs : List Product) → ys ≡ xs ++ noted_in s lo hi t (begun k (upto n) (upto i)) → zs ≡ ys ++ noted_in s lo hi (t ++ i ∷ []) (tuples k (upto n)) → zs ≡ xs ++ noted_in s lo hi t (begun k (upto n) (upto (i + 1)))
+pub sources-more : (s : Search) (lo hi : ℕ) (t : List ℕ) (k n i : ℕ) (xs ys zs : List Product) → ys ≡ xs ++ noted_in s lo hi t (begun k (upto n) (upto i)) →
+    zs ≡ ys ++ noted_in s lo hi (t ++ i ∷ []) (tuples k (upto n)) → zs ≡ xs ++ noted_in s lo hi t (begun k (upto n) (upto (i + 1)))
 sources-more s lo hi t k n i xs ys zs p q =
     let more = found-more (product_at s.ats.now s.kind) (is_noted s.show.now s.ats.now s.kind lo hi) t k n i in
-    q ∙ ap (λ us. us ++ noted_in s lo hi (t ++ i ∷ []) (tuples k (upto n))) p ∙ append_assoc xs (noted_in s lo hi t (begun k (upto n) (upto i))) (noted_in s lo hi (t ++ i ∷ []) (tuples k (upto n))) ∙ ap (λ us. xs ++ us) more
+    q ∙ ap (λ us. us ++ noted_in s lo hi (t ++ i ∷ []) (tuples k (upto n))) p ∙
+    append_assoc xs (noted_in s lo hi t (begun k (upto n) (upto i))) (noted_in s lo hi (t ++ i ∷ []) (tuples k (upto n))) ∙ ap (λ us. xs ++ us) more
 
-pub sources-skip : (s : Search) (lo hi : ℕ) (t : List ℕ) (k n i : ℕ) (xs ys : List Product) → ys ≡ xs ++ noted_in s lo hi t (begun k (upto n) (upto i)) → ((u : List ℕ) → is_noted s.show.now s.ats.now s.kind lo hi (t ++ i ∷ u) ≡ false) → ys ≡ xs ++ noted_in s lo hi t (begun k (upto n) (upto (i + 1)))
+pub sources-skip : (s : Search) (lo hi : ℕ) (t : List ℕ) (k n i : ℕ) (xs ys : List Product) → ys ≡ xs ++ noted_in s lo hi t (begun k (upto n) (upto i)) →
+    ((u : List ℕ) → is_noted s.show.now s.ats.now s.kind lo hi (t ++ i ∷ u) ≡ false) → ys ≡ xs ++ noted_in s lo hi t (begun k (upto n) (upto (i + 1)))
 sources-skip s lo hi t k n i xs ys p h =
     let noted = is_noted s.show.now s.ats.now s.kind lo hi in
-    let none : noted_in s lo hi (t ++ i ∷ []) (tuples k (upto n)) ≡ [] = found-none (product_at s.ats.now s.kind) noted (t ++ i ∷ []) (tuples k (upto n)) (λ u. ap noted (append_assoc t (i ∷ []) u) ∙ h u) in
+    let none : noted_in s lo hi (t ++ i ∷ []) (tuples k (upto n)) ≡ [] =
+    found-none (product_at s.ats.now s.kind) noted (t ++ i ∷ []) (tuples k (upto n)) (λ u. ap noted (append_assoc t (i ∷ []) u) ∙ h u) in
     sources-more s lo hi t k n i xs ys ys p (sym (ap (λ us. ys ++ us) none ∙ append-nil ys))
 
-pub sources-end : (s : Search) (lo hi : ℕ) (t : List ℕ) (k j n i : ℕ) (xs ys : List Product) → i ≡ n → suc k ≡ j → ys ≡ xs ++ noted_in s lo hi t (begun k (upto n) (upto i)) → ys ≡ xs ++ noted_in s lo hi t (tuples j (upto n))
+pub sources-end : (s : Search) (lo hi : ℕ) (t : List ℕ) (k j n i : ℕ) (xs ys : List Product) → i ≡ n → suc k ≡ j → ys ≡ xs ++ noted_in s lo hi t (begun k (upto n) (upto i)) →
+    ys ≡ xs ++ noted_in s lo hi t (tuples j (upto n))
 sources-end s lo hi t k j n i xs ys e f p =
     p ∙ ap (λ us. xs ++ us) (found-end (product_at s.ats.now s.kind) (is_noted s.show.now s.ats.now s.kind lo hi) t k n i e ∙ ap (λ m. noted_in s lo hi t (tuples m (upto n))) f)

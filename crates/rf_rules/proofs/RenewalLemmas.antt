@@ -91,7 +91,8 @@ apart true true = refl
 apart true false = refl
 apart false m = refl
 
-touched-either : (show : ShowData) (ats : List (Option ℕ)) (kind : Kind) (mask : ℕ) (t : List ℕ) → ((is_broken show ats kind t && not (meets mask t)) || is_touched show ats kind mask t) ≡ is_broken show ats kind t
+touched-either : (show : ShowData) (ats : List (Option ℕ)) (kind : Kind) (mask : ℕ) (t : List ℕ) →
+    ((is_broken show ats kind t && not (meets mask t)) || is_touched show ats kind mask t) ≡ is_broken show ats kind t
 unfolding is_touched
 touched-either show ats kind mask t = either (is_broken show ats kind t) (meets mask t)
 
@@ -99,7 +100,9 @@ touched-apart : (show : ShowData) (ats : List (Option ℕ)) (kind : Kind) (mask 
 unfolding is_touched
 touched-apart show ats kind mask t = apart (is_broken show ats kind t) (meets mask t)
 
-kept-same : (mask : ℕ) (old new : ShowData) (kind : Kind) → Agrees mask old new → filter (is_kept kind mask) (conflicts_of old (ats_of old) kind) ≡ map (conflict_of new (ats_of new) kind) (filter (λ t. is_broken new (ats_of new) kind t && not (meets mask t)) (tuples (roles_of kind) (upto (length (ats_of new)))))
+kept-same : (mask : ℕ) (old new : ShowData) (kind : Kind) → Agrees mask old new →
+    filter (is_kept kind mask) (conflicts_of old (ats_of old) kind) ≡
+    map (conflict_of new (ats_of new) kind) (filter (λ t. is_broken new (ats_of new) kind t && not (meets mask t)) (tuples (roles_of kind) (upto (length (ats_of new)))))
 kept-same mask old new kind a =
     let many : (c : ℕ) → has_bit mask c ≡ false → nat_lt c (length (ats_of old)) ≡ nat_lt c (length (ats_of new)) =
     λ c o. ap (nat_lt c) (length-map old.carriers (λ x. x.at)) ∙ a.carriers c o ∙ sym (ap (nat_lt c) (length-map new.carriers (λ x. x.at))) in

@@ -48,7 +48,8 @@ each-filter P a (x ∷ xs) h = each-filter-at P a x xs (a x) refl h.0 (each-filt
 
 -- ---- filters that say the same
 
-same-at : {X Y : Type 0} (f g : X → Y) (p q : X → Bool) (x : X) (xs : List X) (b : Bool) → p x ≡ b → p x ≡ q x → (p x ≡ true → f x ≡ g x) → map f (filter p xs) ≡ map g (filter q xs) → map f (filter p (x ∷ xs)) ≡ map g (filter q (x ∷ xs))
+same-at : {X Y : Type 0} (f g : X → Y) (p q : X → Bool) (x : X) (xs : List X) (b : Bool) → p x ≡ b → p x ≡ q x → (p x ≡ true → f x ≡ g x) →
+    map f (filter p xs) ≡ map g (filter q xs) → map f (filter p (x ∷ xs)) ≡ map g (filter q (x ∷ xs))
 same-at f g p q x xs true e h k ih =
     let q-yes : q x ≡ true = sym h ∙ e in
     let fg : f x ≡ g x = k e in
@@ -61,13 +62,15 @@ pub map-same : {X Y : Type 0} (f g : X → Y) (p q : X → Bool) (xs : List X) �
 map-same f g p q [] h = refl
 map-same f g p q (x ∷ xs) h = same-at f g p q x xs (p x) refl h.0.0 h.0.1 (map-same f g p q xs h.1)
 
-test-at : {X Y : Type 0} (r : Y → Bool) (f : X → Y) (p q : X → Bool) (x : X) (xs : List X) (b c : Bool) → p x ≡ b → r (f x) ≡ c → (p x ≡ true → r (f x) ≡ q x) → filter r (map f (filter p xs)) ≡ map f (filter (λ y. p y && q y) xs) → filter r (map f (filter p (x ∷ xs))) ≡ map f (filter (λ y. p y && q y) (x ∷ xs))
+test-at : {X Y : Type 0} (r : Y → Bool) (f : X → Y) (p q : X → Bool) (x : X) (xs : List X) (b c : Bool) → p x ≡ b → r (f x) ≡ c → (p x ≡ true → r (f x) ≡ q x) →
+    filter r (map f (filter p xs)) ≡ map f (filter (λ y. p y && q y) xs) → filter r (map f (filter p (x ∷ xs))) ≡ map f (filter (λ y. p y && q y) (x ∷ xs))
 test-at r f p q x xs true true e g h ih = let q-yes : q x ≡ true = sym (h e) ∙ g in rw (e, g, q-yes) (ap (λ zs. f x ∷ zs) ih)
 test-at r f p q x xs true false e g h ih = let q-no : q x ≡ false = sym (h e) ∙ g in rw (e, g, q-no) ih
 test-at r f p q x xs false c e g h ih = rw e ih
 
 -- a test of what f makes of those that pass
-pub filter-made : {X Y : Type 0} (r : Y → Bool) (f : X → Y) (p q : X → Bool) (xs : List X) → Each (λ x. p x ≡ true → r (f x) ≡ q x) xs → filter r (map f (filter p xs)) ≡ map f (filter (λ x. p x && q x) xs)
+pub filter-made : {X Y : Type 0} (r : Y → Bool) (f : X → Y) (p q : X → Bool) (xs : List X) → Each (λ x. p x ≡ true → r (f x) ≡ q x) xs →
+    filter r (map f (filter p xs)) ≡ map f (filter (λ x. p x && q x) xs)
 filter-made r f p q [] h = refl
 filter-made r f p q (x ∷ xs) h = test-at r f p q x xs (p x) (r (f x)) refl refl h.0 (filter-made r f p q xs h.1)
 
@@ -142,7 +145,8 @@ merge-filters lt f a b (x ∷ xs) h d = both-at lt f a b x xs (a x) (b x) refl r
 
 -- ---- parts that are empty
 
-flat-only-at : {X Y : Type 0} (g : X → List Y) (test : X → Bool) (x : X) (xs : List X) (b : Bool) → test x ≡ b → (test x ≡ false → g x ≡ []) → flat_map g xs ≡ flat_map g (filter test xs) → flat_map g (x ∷ xs) ≡ flat_map g (filter test (x ∷ xs))
+flat-only-at : {X Y : Type 0} (g : X → List Y) (test : X → Bool) (x : X) (xs : List X) (b : Bool) → test x ≡ b → (test x ≡ false → g x ≡ []) →
+    flat_map g xs ≡ flat_map g (filter test xs) → flat_map g (x ∷ xs) ≡ flat_map g (filter test (x ∷ xs))
 flat-only-at g test x xs true e none ih = rw e (ap (λ zs. g x ++ zs) ih)
 flat-only-at g test x xs false e none ih = rw e (ap (λ zs. zs ++ flat_map g xs) (none e) ∙ ih)
 

@@ -50,7 +50,8 @@ flat_map-same : {X Y : Type 0} (f g : X → List Y) (xs : List X) → ((x : X) �
 flat_map-same f g [] h = refl
 flat_map-same f g (x ∷ xs) h = ap (λ ys. ys ++ flat_map f xs) (h x) ∙ ap (λ ys. g x ++ ys) (flat_map-same f g xs h)
 
-flat_map-filter-at : {X Y : Type 0} (p : X → Bool) (f : X → List Y) (x : X) (xs : List X) (b : Bool) → p x ≡ b → flat_map (λ y. if p y then f y else []) xs ≡ flat_map f (filter p xs) → flat_map (λ y. if p y then f y else []) (x ∷ xs) ≡ flat_map f (filter p (x ∷ xs))
+flat_map-filter-at : {X Y : Type 0} (p : X → Bool) (f : X → List Y) (x : X) (xs : List X) (b : Bool) → p x ≡ b →
+    flat_map (λ y. if p y then f y else []) xs ≡ flat_map f (filter p xs) → flat_map (λ y. if p y then f y else []) (x ∷ xs) ≡ flat_map f (filter p (x ∷ xs))
 flat_map-filter-at p f x xs true e ih = rw e (ap (λ ys. f x ++ ys) ih)
 flat_map-filter-at p f x xs false e ih = rw e ih
 
@@ -58,7 +59,8 @@ flat_map-filter : {X Y : Type 0} (p : X → Bool) (f : X → List Y) (xs : List 
 flat_map-filter p f [] = refl
 flat_map-filter p f (x ∷ xs) = flat_map-filter-at p f x xs (p x) refl (flat_map-filter p f xs)
 
-noted-kind : (show : ShowData) (ats : List (Option ℕ)) (lo hi : ℕ) (kind : Kind) → found_in (product_at ats kind) (is_noted show ats kind lo hi) [] (tuples (roles_of kind - 1) (upto (length ats))) ≡ filter (lies lo hi) (products_of show ats kind)
+noted-kind : (show : ShowData) (ats : List (Option ℕ)) (lo hi : ℕ) (kind : Kind) →
+    found_in (product_at ats kind) (is_noted show ats kind lo hi) [] (tuples (roles_of kind - 1) (upto (length ats))) ≡ filter (lies lo hi) (products_of show ats kind)
 unfolding is_noted
 noted-kind show ats lo hi kind =
     let all = tuples (roles_of kind - 1) (upto (length ats)) in
@@ -68,7 +70,8 @@ pub noted-all : (show : ShowData) (lo hi : ℕ) → flat_map (noted_of show (ats
 noted-all show lo hi =
     let ats = ats_of show in
     let found : Kind → List Product = λ kind. found_in (product_at ats kind) (is_noted show ats kind lo hi) [] (tuples (roles_of kind - 1) (upto (length ats))) in
-    flat_map-filter has_victim found kinds ∙ flat_map-same found (λ kind. filter (lies lo hi) (products_of show ats kind)) (filter has_victim kinds) (noted-kind show ats lo hi) ∙ sym (filter-flat_map (lies lo hi) (products_of show ats) (filter has_victim kinds))
+    flat_map-filter has_victim found kinds ∙ flat_map-same found (λ kind. filter (lies lo hi) (products_of show ats kind)) (filter has_victim kinds) (noted-kind show ats lo hi) ∙
+    sym (filter-flat_map (lies lo hi) (products_of show ats) (filter has_victim kinds))
 
 -- ---- values and sizes
 
@@ -96,17 +99,21 @@ between-size lo hi (pos n) h =
 between-size lo hi (negsuc n) h = absurd (false≢true h)
 
 -- what lies from lo to hi, sorted by size and with the order kept among those of one size, is listed by values
-pub sorted-values : (lo hi : ℕ) (all xs ys : List Product) → xs ≡ filter (lies lo hi) all → IsNonDecreasingBy size_of ys → ((v : ℕ) → filter (has_size v) ys ≡ filter (has_size v) xs) → IsPermutation xs ys → ys ≡ values lo hi all
+pub sorted-values : (lo hi : ℕ) (all xs ys : List Product) → xs ≡ filter (lies lo hi) all → IsNonDecreasingBy size_of ys →
+    ((v : ℕ) → filter (has_size v) ys ≡ filter (has_size v) xs) → IsPermutation xs ys → ys ≡ values lo hi all
 sorted-values lo hi all xs ys found up stable same =
     let k = hi + 1 - lo in
-    let inside : All (λ (p : Product). (lo ≤ size_of p) × (size_of p < lo + k)) xs = rw found (λ i d q. between-size lo hi (get_or (filter (lies lo hi) all) i d).value (all-filter (λ (p : Product). Unit {0}) (lies lo hi) all (λ _ _ _. tt) i d q).1) in
+    let inside : All (λ (p : Product). (lo ≤ size_of p) × (size_of p < lo + k)) xs =
+    rw found (λ i d q. between-size lo hi (get_or (filter (lies lo hi) all) i d).value (all-filter (λ (p : Product). Unit {0}) (lies lo hi) all (λ _ _ _. tt) i d q).1) in
     let groups-of : groups has_size lo k ys ≡ ys = groups-rising size_of lo k ys up (All-permutation (λ (p : Product). (lo ≤ size_of p) × (size_of p < lo + k)) xs ys same inside) in
     let each : (i : ℕ) → i < k → filter (has_size (lo + i)) ys ≡ filter (has_value (lo + i)) all = λ i p.
-    stable (lo + i) ∙ ap (filter (has_size (lo + i))) found ∙ filter-twice (has_size (lo + i)) (lies lo hi) all ∙ filter-same (λ q. lies lo hi q && has_size (lo + i) q) (has_value (lo + i)) all (λ q. value-is lo hi (lo + i) q.value (omega arith) (omega (arith, p))) in
+    stable (lo + i) ∙ ap (filter (has_size (lo + i))) found ∙ filter-twice (has_size (lo + i)) (lies lo hi) all ∙
+    filter-same (λ q. lies lo hi q && has_size (lo + i) q) (has_value (lo + i)) all (λ q. value-is lo hi (lo + i) q.value (omega arith) (omega (arith, p))) in
     sym groups-of ∙ groups-same has_size has_value lo k ys all each
 
 -- what is kept of the list is what is shown of it
-pub listed-is : (show : ShowData) (lo hi : ℕ) (ys shown : List Product) (total : ℕ) → ys ≡ products show lo hi → shown ≡ take 10000 ys → total ≡ length ys → ◌≡◌ {A = Products} (record { shown = shown; total = total }) (listed show lo hi)
+pub listed-is : (show : ShowData) (lo hi : ℕ) (ys shown : List Product) (total : ℕ) → ys ≡ products show lo hi → shown ≡ take 10000 ys → total ≡ length ys →
+    ◌≡◌ {A = Products} (record { shown = shown; total = total }) (listed show lo hi)
 unfolding shown_of
 listed-is show lo hi ys shown total e f g =
     let front : shown ≡ take 10000 (products show lo hi) = f ∙ ap (take 10000) e in

@@ -55,10 +55,7 @@ whole a b xs e p few = record {
 }
 
 -- one part more of a list that is made of parts
-pub part-more : {X : Type 0} (f : X → List Conflict) (xs : List X) (i : ℕ) (d : X) (a b c : Tally) → i < length xs → Extends a b (flat_map f (take i xs)) → Extends b c (f (get_or xs i d)) → Extends a c (flat_map f (take (i + 1) xs))
+pub part-more : {X : Type 0} (f : X → List Conflict) (xs : List X) (i : ℕ) (d : X) (a b c : Tally) → i < length xs → Extends a b (flat_map f (take i xs)) →
+    Extends b c (f (get_or xs i d)) → Extends a c (flat_map f (take (i + 1) xs))
 part-more f xs i d a b c h p q =
     same-more a c _ _ (flat_map_more f [] (take i xs) (get_or xs i d) ∙ ap (flat_map f) (sym (take_more xs i d h))) (both-more a b c _ _ p q)
-
--- two parts after nothing are the whole
-pub whole-of_two : (a b c : Tally) (xs ys : List Conflict) → IsEmpty a → Extends a b xs → Extends b c ys → length (xs ++ ys) < 2 ^ 64 - 1 → IsWhole c (xs ++ ys)
-whole-of_two a b c xs ys e p q few = whole a c (xs ++ ys) e (both-more a b c xs ys p q) few

@@ -46,7 +46,8 @@ unfolding tuples
 tuples-suc k xs = refl
 
 pub begun-more : (k : ℕ) (xs : List ℕ) (i : ℕ) → begun k xs (upto (suc i)) ≡ begun k xs (upto i) ++ map (λ t. i ∷ t) (tuples k xs)
-begun-more k xs i = ap (λ zs. begun k xs zs) (upto-suc i) ∙ flat_map-append (λ x. map (λ t. x ∷ t) (tuples k xs)) (upto i) (i ∷ []) ∙ ap (λ zs. begun k xs (upto i) ++ zs) (append-nil (map (λ t. i ∷ t) (tuples k xs)))
+begun-more k xs i = ap (λ zs. begun k xs zs) (upto-suc i) ∙ flat_map-append (λ x. map (λ t. x ∷ t) (tuples k xs)) (upto i) (i ∷ []) ∙
+    ap (λ zs. begun k xs (upto i) ++ zs) (append-nil (map (λ t. i ∷ t) (tuples k xs)))
 
 length-begun : {X : Type 0} (k : ℕ) (xs firsts : List X) → length (begun k xs firsts) ≡ length firsts * length (tuples k xs)
 length-begun k xs [] = omega arith
@@ -67,7 +68,8 @@ tuples-few most (suc k) xs h =
 found-append : {Y : Type 0} (f : List ℕ → Y) (p : List ℕ → Bool) (t : List ℕ) (us vs : List (List ℕ)) → found_in f p t (us ++ vs) ≡ found_in f p t us ++ found_in f p t vs
 unfolding found_in
 found-append f p t us vs =
-    ap (λ zs. map f (filter p zs)) (map-append (λ u. t ++ u) us vs) ∙ ap (map f) (filter-append p (map (λ u. t ++ u) us) (map (λ u. t ++ u) vs)) ∙ map-append f (filter p (map (λ u. t ++ u) us)) (filter p (map (λ u. t ++ u) vs))
+    ap (λ zs. map f (filter p zs)) (map-append (λ u. t ++ u) us vs) ∙ ap (map f) (filter-append p (map (λ u. t ++ u) us) (map (λ u. t ++ u) vs)) ∙
+    map-append f (filter p (map (λ u. t ++ u) us)) (filter p (map (λ u. t ++ u) vs))
 
 map-into : (t : List ℕ) (c : ℕ) (us : List (List ℕ)) → map (λ u. t ++ u) (map (λ u. c ∷ u) us) ≡ map (λ u. (t ++ c ∷ []) ++ u) us
 map-into t c [] = refl
@@ -101,11 +103,13 @@ unfolding found_in upto
 found-start f p t k n = refl
 
 -- one carrier more in the next role, after those below it
-pub found-more : {Y : Type 0} (f : List ℕ → Y) (p : List ℕ → Bool) (t : List ℕ) (k n i : ℕ) → found_in f p t (begun k (upto n) (upto i)) ++ found_in f p (t ++ i ∷ []) (tuples k (upto n)) ≡ found_in f p t (begun k (upto n) (upto (i + 1)))
+pub found-more : {Y : Type 0} (f : List ℕ → Y) (p : List ℕ → Bool) (t : List ℕ) (k n i : ℕ) →
+    found_in f p t (begun k (upto n) (upto i)) ++ found_in f p (t ++ i ∷ []) (tuples k (upto n)) ≡ found_in f p t (begun k (upto n) (upto (i + 1)))
 found-more f p t k n i =
     let us = begun k (upto n) (upto i) in
     let vs = map (λ u. i ∷ u) (tuples k (upto n)) in
-    ap (λ zs. found_in f p t us ++ zs) (sym (found-into f p t i (tuples k (upto n)))) ∙ sym (found-append f p t us vs) ∙ ap (found_in f p t) (sym (begun-more k (upto n) i) ∙ ap (λ j. begun k (upto n) (upto j)) (sym (add-one i)))
+    ap (λ zs. found_in f p t us ++ zs) (sym (found-into f p t i (tuples k (upto n)))) ∙ sym (found-append f p t us vs) ∙
+    ap (found_in f p t) (sym (begun-more k (upto n) i) ∙ ap (λ j. begun k (upto n) (upto j)) (sym (add-one i)))
 
 -- after the last carrier
 pub found-end : {Y : Type 0} (f : List ℕ → Y) (p : List ℕ → Bool) (t : List ℕ) (k n i : ℕ) → i ≡ n → found_in f p t (begun k (upto n) (upto i)) ≡ found_in f p t (tuples (suc k) (upto n))

@@ -89,7 +89,8 @@ impl Search<'_> {
         requires few { length self.now.ats.now ≤ most_carriers }
         requires open { length t.now + 1 < roles_of self.now.kind }
         requires product { product ≡ partial_of self.now t.now }
-        ensures { (c : ℕ) → c < length self.now.ats.now → has_bit result c ≡ false → broken_in self.now (t.now ++ c ∷ []) (tuples (roles_of self.now.kind - length t.now - 1) (upto (length self.now.ats.now))) ≡ [] }
+        ensures { (c : ℕ) → c < length self.now.ats.now → has_bit result c ≡ false →
+            broken_in self.now (t.now ++ c ∷ []) (tuples (roles_of self.now.kind - length t.now - 1) (upto (length self.now.ats.now))) ≡ [] }
     {
         if t.len() + 2 < self.coefficients.len() {
             return all();

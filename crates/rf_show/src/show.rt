@@ -45,7 +45,9 @@ impl Model for Show {
 
     ghost view = { λ s. record { profiles = s.profiles.items; zones = s.zones; carriers = s.carriers.items; bans = s.bans.items; scans = s.scans.items } };
 
-    ghost invariant = { λ s. IsTrue (is_show (record { profiles = s.profiles.items; zones = s.zones; carriers = s.carriers.items; bans = s.bans.items; scans = s.scans.items })) × (1 ≤ length s.zones.names) × (length s.zones.names ≤ most_zones) × (most_profiles ≤ vec_capacity s.profiles) × (most_carriers ≤ vec_capacity s.carriers) × (most_bans ≤ vec_capacity s.bans) × (most_scans ≤ vec_capacity s.scans) };
+    ghost invariant = { λ s. IsTrue (is_show (record { profiles = s.profiles.items; zones = s.zones; carriers = s.carriers.items; bans = s.bans.items; scans = s.scans.items })) ×
+        (1 ≤ length s.zones.names) × (length s.zones.names ≤ most_zones) × (most_profiles ≤ vec_capacity s.profiles) × (most_carriers ≤ vec_capacity s.carriers) ×
+        (most_bans ≤ vec_capacity s.bans) × (most_scans ≤ vec_capacity s.scans) };
 }
 
 impl Show {

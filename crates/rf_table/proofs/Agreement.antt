@@ -104,7 +104,8 @@ meet-same size old new (Some a) (Some b) None None z h k = refl
 meet-same size old new (Some a) (Some b) None (Some y) z h k = absurd k
 meet-same size old new (Some a) (Some b) (Some x) None z h k = absurd k
 meet-same size old new (Some a) (Some b) (Some x) (Some y) z h k =
-    ap (joins size) (ap (λ n. coupling_of old (zone_number old n) (zone_number old x.zone)) h.zone ∙ ap (λ n. coupling_of old (zone_number old b.zone) (zone_number old n)) k.zone ∙ coupling-same old new b.zone y.zone z)
+    ap (joins size) (ap (λ n. coupling_of old (zone_number old n) (zone_number old x.zone)) h.zone ∙ ap (λ n. coupling_of old (zone_number old b.zone) (zone_number old n)) k.zone ∙
+    coupling-same old new b.zone y.zone z)
 
 -- ---- times
 
@@ -144,7 +145,8 @@ meets-same : (mask size : ℕ) (old new : ShowData) (t : List ℕ) → Unchanged
 meets-same mask size old new t u h =
     all-out mask (λ a. list_all (λ b. meet_at size old.zones old.carriers a b) t) (λ a. list_all (λ b. meet_at size new.zones new.carriers a b) t) t h
     (λ a o. all-out mask (meet_at size old.zones old.carriers a) (meet_at size new.zones new.carriers a) t h
-    (λ b q. meet-same size old.zones new.zones (slice_get old.carriers a) (slice_get new.carriers a) (slice_get old.carriers b) (slice_get new.carriers b) u.zones (u.same a o).alike (u.same b q).alike))
+    (λ b q. meet-same size old.zones new.zones (slice_get old.carriers a) (slice_get new.carriers a) (slice_get old.carriers b) (slice_get new.carriers b) u.zones
+    (u.same a o).alike (u.same b q).alike))
 
 joined-same : (mask size : ℕ) (old new : ShowData) (t : List ℕ) → Unchanged mask old new → meets mask t ≡ false → are_joined old size t ≡ are_joined new size t
 unfolding are_joined

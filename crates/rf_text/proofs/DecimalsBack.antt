@@ -1,5 +1,37 @@
 -- A decimal in printed form is read back as it was.
-use Rattle.std.proofs.Common.{◌≡◌, ◌≢◌, ◌<◌, ◌+◌, ◌-◌, ◌++◌, ◌∙◌, ℕ, zero, suc, List, [], ◌∷◌, ◌&&◌, Bool, true, false, length, length-append, take, drop, replicate, append-nil, arith, refl, rules, sym, Some, None, inl, inr}
+use Rattle.std.proofs.Common.{
+  ◌≡◌,
+  ◌≢◌,
+  ◌<◌,
+  ◌+◌,
+  ◌-◌,
+  ◌++◌,
+  ◌∙◌,
+  ℕ,
+  zero,
+  suc,
+  List,
+  [],
+  ◌∷◌,
+  ◌&&◌,
+  Bool,
+  true,
+  false,
+  length,
+  length-append,
+  take,
+  drop,
+  replicate,
+  append-nil,
+  arith,
+  refl,
+  rules,
+  sym,
+  Some,
+  None,
+  inl,
+  inr,
+}
 use Rattle.std.specs.Prelude.{ℤ, pos, negsuc, neg_ℤ, nat_abs, nat_lt, slice_index, ◌^◌, ◌/◌, ◌%◌, ◌*◌, ◌==◌, decimal, IfSome, if◌then◌else◌}
 use Rattle.std.specs.declared.option.Option.{Option}
 use Rattle.std.specs.Char.{is_ascii_digit}

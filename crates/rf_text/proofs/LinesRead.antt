@@ -26,7 +26,27 @@ use Rattle.rf_text.specs.Commands.{command_in, command_with}
 use Rattle.rf_text.specs.CommandTexts.{command_text_of, command_words}
 use Rattle.rf_base.specs.Lines.{joined}
 use Rattle.rf_text.specs.ShowLaw.{HotPointsOf, IsBan, IsCarrier, IsProfile, IsScan, IsWhole, LinesMakeShow, after_command, after_lines}
-use Rattle.rf_text.specs.Shows.{at_lines, carrier_lines, couple_lines, coupling_edit, far_lines, lock_lines, pair_line, pairs_that, pairs_with, profile_lines, range_line, ranges_lines, scan_line, show_lines, stand, time_line, zone_line, zone_name, ban_line}
+use Rattle.rf_text.specs.Shows.{
+  at_lines,
+  carrier_lines,
+  couple_lines,
+  coupling_edit,
+  far_lines,
+  lock_lines,
+  pair_line,
+  pairs_that,
+  pairs_with,
+  profile_lines,
+  range_line,
+  ranges_lines,
+  scan_line,
+  show_lines,
+  stand,
+  time_line,
+  zone_line,
+  zone_name,
+  ban_line,
+}
 use Rattle.rf_text.specs.Words.{is_word}
 use Rattle.rf_text.proofs.CommandsBack.{IsBack, command_row_back, edit_back}
 use Rattle.rf_text.proofs.ShapesBack.{AreShort, IsFiled, IsNamed, IsShort}
@@ -139,8 +159,10 @@ rises_all last (r ∷ ranges) h = (h.0, rises_all r.to ranges h.2)
 ranges_said : (p : Profile) (ranges : List Span) → IsName p.name → is_narrow p ≡ true → AllByRecursion IsRange ranges → AllByRecursion IsBack (ranges_lines p ranges)
 ranges_said p [] name narrow h = tt
 ranges_said p (r ∷ ranges) name narrow h = (
-  edit_back (codes "profile") (p.name, r.from ∷ r.to ∷ r.step ∷ widths p) (named p.name name, (refl, (short r.from h.0.low, (short r.to h.0.high, (short r.step h.0.stride, widths_short (widths p) narrow))))),
-  all_map IsRange IsBack (range_line p.name) ranges h.1 (λ q v. edit_back (codes "range") (p.name, (q.from, (q.to, q.step))) (named p.name name, (short q.from v.low, (short q.to v.high, short q.step v.stride)))),
+  edit_back (codes "profile") (p.name, r.from ∷ r.to ∷ r.step ∷ widths p)
+      (named p.name name, (refl, (short r.from h.0.low, (short r.to h.0.high, (short r.step h.0.stride, widths_short (widths p) narrow))))),
+  all_map IsRange IsBack (range_line p.name) ranges h.1 (λ q v. edit_back (codes "range") (p.name, (q.from, (q.to, q.step)))
+      (named p.name name, (short q.from v.low, (short q.to v.high, short q.step v.stride)))),
 )
 
 profiles_said : (profiles : List Profile) → list_all is_narrow profiles ≡ true → AllByRecursion IsProfile profiles → AllByRecursion IsBack (flat_map profile_lines profiles)
@@ -198,7 +220,8 @@ show_said show w =
     (all_both IsBack (couple_lines show.zones) _ (pairs_said Coupled show.zones w.zone_names)
     (all_both IsBack (far_lines show.zones) _ (pairs_said Far show.zones w.zone_names)
     (all_both IsBack (flat_map profile_lines show.profiles) _ (profiles_said show.profiles k.narrow w.profiles)
-    (all_both IsBack (map ban_line show.bans) _ (all_map IsBan IsBack ban_line show.bans w.bans (λ b h. edit_back (codes "ban") (b.lo, (b.hi, b.zone)) (short b.lo h.low, (short b.hi h.high, if_named b.zone h.zone))))
+    (all_both IsBack (map ban_line show.bans) _ (all_map IsBan IsBack ban_line show.bans w.bans
+    (λ b h. edit_back (codes "ban") (b.lo, (b.hi, b.zone)) (short b.lo h.low, (short b.hi h.high, if_named b.zone h.zone))))
     (all_both IsBack (map scan_line show.scans) (flat_map carrier_lines show.carriers) (scans_said show.zones show.scans k.scans w.scans)
     (all_flat IsCarrier IsBack carrier_lines show.carriers w.carriers carrier_said))))))
 

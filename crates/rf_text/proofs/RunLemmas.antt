@@ -1,5 +1,38 @@
 -- The runs of neighbours that pass a test.
-use Rattle.std.proofs.Common.{◌≡◌, add-zero, zero-add, get_or, length-append, take, ◌<◌, ◌≤◌, ◌+◌, ◌-◌, ◌++◌, ◌∙◌, ℕ, zero, suc, List, [], ◌∷◌, Bool, true, false, not, length, append-nil, append_assoc, inl, inr, subst, sym, ap, arith, refl}
+use Rattle.std.proofs.Common.{
+  ◌≡◌,
+  add-zero,
+  zero-add,
+  get_or,
+  length-append,
+  take,
+  ◌<◌,
+  ◌≤◌,
+  ◌+◌,
+  ◌-◌,
+  ◌++◌,
+  ◌∙◌,
+  ℕ,
+  zero,
+  suc,
+  List,
+  [],
+  ◌∷◌,
+  Bool,
+  true,
+  false,
+  not,
+  length,
+  append-nil,
+  append_assoc,
+  inl,
+  inr,
+  subst,
+  sym,
+  ap,
+  arith,
+  refl,
+}
 use Rattle.std.specs.Prelude.{◌==◌, decimal, string_bytes, sum_by, slice_get, slice_index, Some}
 use Rattle.std.specs.declared.alloc.Global.{Global}
 use Rattle.std.specs.Prelude.{String}

@@ -1,5 +1,35 @@
 -- Lines of commands that are added one after another.
-use Rattle.std.proofs.Common.{◌≡◌, ◌<◌, ◌≤◌, ◌+◌, ◌-◌, ◌++◌, ◌∙◌, ℕ, List, [], ◌∷◌, Bool, true, false, not, length, length-append, map, filter, take, drop, get_or, length-drop, append-nil, append_assoc, arith, refl, sym, ap}
+use Rattle.std.proofs.Common.{
+  ◌≡◌,
+  ◌<◌,
+  ◌≤◌,
+  ◌+◌,
+  ◌-◌,
+  ◌++◌,
+  ◌∙◌,
+  ℕ,
+  List,
+  [],
+  ◌∷◌,
+  Bool,
+  true,
+  false,
+  not,
+  length,
+  length-append,
+  map,
+  filter,
+  take,
+  drop,
+  get_or,
+  length-drop,
+  append-nil,
+  append_assoc,
+  arith,
+  refl,
+  sym,
+  ap,
+}
 use Rattle.std.specs.Prelude.{if◌then◌else◌, slice_get, Some, Result, Ok, Err, OnOk}
 use Rattle.std.specs.List.{flat_map, range_with_len}
 use Rattle.std.proofs.lemmas.List.{get_or-drop, take_all, take_more}

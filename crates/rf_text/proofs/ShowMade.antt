@@ -44,7 +44,8 @@ kept_of show h =
     let two = and_parts (are_profiles show.profiles) (are_carriers show.profiles show.zones show.carriers) three.0 in
     let p = and_parts (nat_le (length show.profiles) most_profiles && differ (profile_names show.profiles)) (list_all is_narrow show.profiles) two.0 in
     let q = and_parts (nat_le (length show.profiles) most_profiles) (differ (profile_names show.profiles)) p.0 in
-    let c = and_parts (nat_le (length show.carriers) most_carriers && differ (carrier_names show.carriers) && list_all (belongs show.profiles show.zones) show.carriers) (list_all is_steady show.carriers) two.1 in
+    let c = and_parts (nat_le (length show.carriers) most_carriers && differ (carrier_names show.carriers) && list_all (belongs show.profiles show.zones) show.carriers)
+    (list_all is_steady show.carriers) two.1 in
     let d = and_parts (nat_le (length show.carriers) most_carriers && differ (carrier_names show.carriers)) (list_all (belongs show.profiles show.zones) show.carriers) c.0 in
     let e = and_parts (nat_le (length show.carriers) most_carriers) (differ (carrier_names show.carriers)) d.0 in
     let b = and_parts (nat_le (length show.bans) most_bans) (list_all (is_ban show.zones) show.bans) three.1 in
@@ -91,8 +92,14 @@ rest_made hot show w k =
     let p = profiles_made hot (zones_alone show.zones) [] show.profiles refl k.profiles_differ w.textual w.whole.profiles (omega (arith, k.profiles_few)) in
     let b = bans_made hot (record (zones_alone show.zones) { profiles = show.profiles }) [] show.bans k.bans w.whole.bans (omega (arith, k.bans_few)) in
     let s = scans_made hot (record (zones_alone show.zones) { profiles = show.profiles; bans = show.bans }) [] show.scans k.scans w.points (omega (arith, k.scans_few)) in
-    let c = carriers_made hot (record (zones_alone show.zones) { profiles = show.profiles; bans = show.bans; scans = show.scans }) [] show.carriers k.carriers_differ k.there k.steady w.whole.carriers (omega (arith, k.carriers_few)) in
-    made_all hot _ _ _ (flat_map profile_lines show.profiles) _ p (made_all hot _ _ _ (map ban_line show.bans) _ b (made_all hot _ _ _ (map scan_line show.scans) (flat_map carrier_lines show.carriers) s c))
+    let c = carriers_made hot (record (zones_alone show.zones) {
+      profiles = show.profiles;
+      bans = show.bans;
+      scans =
+          show.scans;
+    }) [] show.carriers k.carriers_differ k.there k.steady w.whole.carriers (omega (arith, k.carriers_few)) in
+    made_all hot _ _ _ (flat_map profile_lines show.profiles) _ p
+    (made_all hot _ _ _ (map ban_line show.bans) _ b (made_all hot _ _ _ (map scan_line show.scans) (flat_map carrier_lines show.carriers) s c))
 
 pub commands_make_show : (hot : HotPointsOf) (show : ShowData) → IsShowOver hot show → made hot first_show (show_lines show) ≡ Some show
 commands_make_show hot show w =

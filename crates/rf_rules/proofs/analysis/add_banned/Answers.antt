@@ -27,4 +27,5 @@ loop-carrier-preserved c =
     let show = c.args.show.now in
     let banned : ℕ → Bool = λ d. stands_banned show d (at_in (ats_of show) d) in
     let yes : banned c.loop-carrier.carrier ≡ true = sym (test (goal.at.loop-carrier-preserved c).After-stands_banned) ∙ c.if-not-stands_banned.false in
-    same-more c.args.tally.now c.add.new.self _ _ (passed-more (λ d. Banned d) banned c.loop-carrier.carrier yes) (both-more c.args.tally.now c.loop-carrier.tally c.add.new.self _ _ c.loop-carrier.invariant c.in_ok-add.ensures)
+    same-more c.args.tally.now c.add.new.self _ _ (passed-more (λ d. Banned d) banned c.loop-carrier.carrier yes)
+    (both-more c.args.tally.now c.loop-carrier.tally c.add.new.self _ _ c.loop-carrier.invariant c.in_ok-add.ensures)

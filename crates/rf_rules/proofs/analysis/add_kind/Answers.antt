@@ -18,10 +18,14 @@ returns c =
     let ats = c.args.ats.now in
     let kind = c.args.kind in
     let all : roles_of kind ≡ roles_of kind - 0 = omega arith in
-    let e : conflicts_of show ats kind ≡ found_in (conflict_of show ats kind) (is_broken show ats kind) [] (tuples (roles_of kind - 0) (upto (length ats))) = sym (found-all (conflict_of show ats kind) (is_broken show ats kind) (tuples (roles_of kind) (upto (length ats)))) ∙ ap (λ k. found_in (conflict_of show ats kind) (is_broken show ats kind) [] (tuples k (upto (length ats)))) all in
+    let e : conflicts_of show ats kind ≡ found_in (conflict_of show ats kind) (is_broken show ats kind) [] (tuples (roles_of kind - 0) (upto (length ats))) =
+    sym (found-all (conflict_of show ats kind) (is_broken show ats kind) (tuples (roles_of kind) (upto (length ats)))) ∙
+    ap (λ k. found_in (conflict_of show ats kind) (is_broken show ats kind) [] (tuples k (upto (length ats)))) all in
     rw e c.extend.ensures
 
 pub returns-then-ask_nothing : goal.returns-then-ask_nothing
 returns-then-ask_nothing c =
-    let none : conflicts_of c.args.company.now.show.now c.args.ats.now c.args.kind ≡ [] = idle c.args.company.now.show.now c.args.ats.now c.args.kind c.requires.carriers (ap (list_all (λ (l : Lane). l.needs == 0)) (sym c.make_lanes-lanes.ensures.lanes) ∙ sym c.ask_nothing.ensures ∙ c.if-ask_nothing.true) in
+    let none : conflicts_of c.args.company.now.show.now c.args.ats.now c.args.kind ≡ [] =
+    idle c.args.company.now.show.now c.args.ats.now c.args.kind c.requires.carriers
+    (ap (list_all (λ (l : Lane). l.needs == 0)) (sym c.make_lanes-lanes.ensures.lanes) ∙ sym c.ask_nothing.ensures ∙ c.if-ask_nothing.true) in
     rw none (none-more c.args.tally.now)

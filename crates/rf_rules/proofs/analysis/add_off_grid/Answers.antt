@@ -27,4 +27,5 @@ loop-carrier-preserved c =
     let show = c.args.show.now in
     let off : ℕ → Bool = λ d. is_off_grid show d (at_in (ats_of show) d) in
     let yes : off c.loop-carrier.carrier ≡ true = sym (test (goal.at.loop-carrier-preserved c).After-is_off_grid) ∙ c.if-not-is_off_grid.false in
-    same-more c.args.tally.now c.add.new.self _ _ (passed-more (λ d. OffGrid d) off c.loop-carrier.carrier yes) (both-more c.args.tally.now c.loop-carrier.tally c.add.new.self _ _ c.loop-carrier.invariant c.in_ok-add.ensures)
+    same-more c.args.tally.now c.add.new.self _ _ (passed-more (λ d. OffGrid d) off c.loop-carrier.carrier yes)
+    (both-more c.args.tally.now c.loop-carrier.tally c.add.new.self _ _ c.loop-carrier.invariant c.in_ok-add.ensures)

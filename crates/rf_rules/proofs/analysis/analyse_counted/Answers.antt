@@ -16,6 +16,9 @@ returns-clause-value c =
     let broken = flat_map (conflicts_of show (ats_of show)) kinds in
     let front = off_grid show ++ banned_carriers show in
     let same : front ++ broken ≡ analysis show = append_assoc (off_grid show) (banned_carriers show) broken in
-    let added : Extends c.new-tally.result c.add_broken.new.tally (analysis show) = same-more c.new-tally.result c.add_broken.new.tally (front ++ broken) (analysis show) same (both-more c.new-tally.result c.add_carriers.new.tally c.add_broken.new.tally front broken c.in_ok-add_carriers.ensures tail) in
-    let all : IsWhole c.add_broken.new.tally (analysis show) = whole c.new-tally.result c.add_broken.new.tally (analysis show) c.new-tally.ensures added (analysis-few show (omega (arith, c.carriers.ensures.few))) in
+    let added : Extends c.new-tally.result c.add_broken.new.tally (analysis show) =
+    same-more c.new-tally.result c.add_broken.new.tally (front ++ broken) (analysis show) same
+    (both-more c.new-tally.result c.add_carriers.new.tally c.add_broken.new.tally front broken c.in_ok-add_carriers.ensures tail) in
+    let all : IsWhole c.add_broken.new.tally (analysis show) = whole c.new-tally.result c.add_broken.new.tally (analysis show) c.new-tally.ensures added
+    (analysis-few show (omega (arith, c.carriers.ensures.few))) in
     analysed-is show _ _ (c.from_vec.ensures ∙ all.shown) all.total

@@ -21,8 +21,10 @@ loop-carrier-init c = record {
 -- the carrier's lane
 term : (c : After-margin) → to_z w64 (of_z w64 c.term.result) ≡ last_coefficient c.args.kind *ℤ pos (khz_in c.args.ats.now c.loop-carrier.carrier)
 term c =
-    let last : to_z w64 (of_z w64 c.coefficient-last.result) ≡ last_coefficient c.args.kind = to_z-of_z w64 c.coefficient-last.result (record { sfits = c.coefficient-last.type_inv }) ∙ rw (← c.roles.ensures.value) c.coefficient-last.ensures.value in
-    let khz : to_z w64 (of_z w64 c.khz_of-khz.result) ≡ pos (khz_in c.args.ats.now c.loop-carrier.carrier) = to_z-of_z w64 c.khz_of-khz.result (record { sfits = c.khz_of-khz.type_inv }) ∙ rw (← c.at.ensures) c.khz_of-khz.ensures.value in
+    let last : to_z w64 (of_z w64 c.coefficient-last.result) ≡ last_coefficient c.args.kind =
+    to_z-of_z w64 c.coefficient-last.result (record { sfits = c.coefficient-last.type_inv }) ∙ rw (← c.roles.ensures.value) c.coefficient-last.ensures.value in
+    let khz : to_z w64 (of_z w64 c.khz_of-khz.result) ≡ pos (khz_in c.args.ats.now c.loop-carrier.carrier) =
+    to_z-of_z w64 c.khz_of-khz.result (record { sfits = c.khz_of-khz.type_inv }) ∙ rw (← c.at.ensures) c.khz_of-khz.ensures.value in
     to_z-of_z w64 c.term.result (record { sfits = c.term.type_inv }) ∙ rw (last, khz) at c.term.ensures.value
 
 needs : (c : After-margin) → c.margin.result ≡ asked c.args.show.now c.args.kind c.loop-carrier.carrier
@@ -43,12 +45,14 @@ loop-carrier-preserved c =
     let inside : i < length ats = omega (arith, ap length c.carriers-carrier-end.ensures.value, c.requires, c.loop-carrier-test.true) in
     let limited : IsLimited (get_or ats i None) = rw (← c.at.ensures) (omega (arith, ap unsigned_abs c.khz_of-khz.ensures.value, c.khz_of-khz.ensures.bound)) in
     record {
-      lanes = take_more_set c.loop-carrier.lanes i _ (omega (arith, c.loop-carrier.invariant.room, ap length c.carriers-carrier-end.ensures.value, c.loop-carrier-test.true)) ∙ ap (λ zs. take i c.loop-carrier.lanes ++ zs ∷ []) (lane c) ∙ ap (λ zs. zs ++ f i ∷ []) c.loop-carrier.invariant.lanes ∙ sym (map-upto f i);
+      lanes = take_more_set c.loop-carrier.lanes i _ (omega (arith, c.loop-carrier.invariant.room, ap length c.carriers-carrier-end.ensures.value, c.loop-carrier-test.true)) ∙
+          ap (λ zs. take i c.loop-carrier.lanes ++ zs ∷ []) (lane c) ∙ ap (λ zs. zs ++ f i ∷ []) c.loop-carrier.invariant.lanes ∙ sym (map-upto f i);
       room = rw length-set c.loop-carrier.invariant.room;
       limited = rw (take_more ats i None inside) (All-push IsLimited (take i ats) (get_or ats i None) c.loop-carrier.invariant.limited limited);
     }
 
 pub returns-clause-limited : goal.returns-clause-limited
 returns-clause-limited c =
-    let all : take c.loop-carrier.carrier c.args.ats.now ≡ c.args.ats.now = take_all c.loop-carrier.carrier c.args.ats.now (omega (arith, ap length c.carriers-carrier-end.ensures.value, c.requires, c.loop-carrier-test.false)) in
+    let all : take c.loop-carrier.carrier c.args.ats.now ≡ c.args.ats.now =
+    take_all c.loop-carrier.carrier c.args.ats.now (omega (arith, ap length c.carriers-carrier-end.ensures.value, c.requires, c.loop-carrier-test.false)) in
     rw all at c.loop-carrier.invariant.limited

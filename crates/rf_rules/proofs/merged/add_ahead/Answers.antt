@@ -7,4 +7,5 @@ pub loop-i-init : goal.loop-i-init
 loop-i-init c = ahead-start (precedes c.args.kind) c.args.conflict.now c.args.kept.now c.args.tally.now
 
 pub loop-i-preserved : goal.loop-i-preserved
-loop-i-preserved c = ahead-more (precedes c.args.kind) c.args.conflict.now _ c.args.kept.now c.loop-i.i c.args.tally.now c.loop-i.tally c.add.new.self c.loop-i-test.true (sym c.precedes.ensures ∙ c.if-precedes.false) c.loop-i.invariant c.in_ok-add.ensures
+loop-i-preserved c = ahead-more (precedes c.args.kind) c.args.conflict.now _ c.args.kept.now c.loop-i.i c.args.tally.now c.loop-i.tally c.add.new.self c.loop-i-test.true
+    (sym c.precedes.ensures ∙ c.if-precedes.false) c.loop-i.invariant c.in_ok-add.ensures

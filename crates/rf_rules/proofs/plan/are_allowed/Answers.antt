@@ -11,11 +11,13 @@ loop-carrier-init c = each-zero (λ k. is_allowed c.args.show.now k (slice_index
 
 pub loop-carrier-preserved : goal.loop-carrier-preserved
 loop-carrier-preserved c =
-    each-more (λ k. is_allowed c.args.show.now k (slice_index c.args.plan.now k)) c.loop-carrier.carrier (c.loop-carrier.carrier + 1) (omega arith) c.loop-carrier.invariant (sym c.allowed.ensures ∙ c.if-not-allowed.false)
+    each-more (λ k. is_allowed c.args.show.now k (slice_index c.args.plan.now k)) c.loop-carrier.carrier (c.loop-carrier.carrier + 1) (omega arith) c.loop-carrier.invariant
+    (sym c.allowed.ensures ∙ c.if-not-allowed.false)
 
 pub returns-then-not-allowed : goal.returns-then-not-allowed
 returns-then-not-allowed c =
-    sym (each-not (λ k. is_allowed c.args.show.now k (slice_index c.args.plan.now k)) (length c.args.plan.now) c.loop-carrier.carrier c.loop-carrier-test.true (sym c.allowed.ensures ∙ c.if-not-allowed.true))
+    sym (each-not (λ k. is_allowed c.args.show.now k (slice_index c.args.plan.now k)) (length c.args.plan.now) c.loop-carrier.carrier c.loop-carrier-test.true
+    (sym c.allowed.ensures ∙ c.if-not-allowed.true))
 
 pub returns : goal.returns
 returns c =

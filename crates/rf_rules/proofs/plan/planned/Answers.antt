@@ -16,7 +16,8 @@ loop-carrier-preserved c =
     let i = c.loop-carrier.carrier in
     let f : ℕ → Option ℕ = λ k. channel_of c.args.show.now k (slice_index c.args.plan.now k) in
     record {
-      ats = take_more_set c.loop-carrier.ats i _ (omega (arith, c.loop-carrier.invariant.room, ap length c.carriers-carrier-end.ensures.value, c.loop-carrier-test.true)) ∙ ap (λ zs. take i c.loop-carrier.ats ++ zs ∷ []) c.channel_of.ensures ∙ ap (λ zs. zs ++ f i ∷ []) c.loop-carrier.invariant.ats ∙ sym (map-upto f i);
+      ats = take_more_set c.loop-carrier.ats i _ (omega (arith, c.loop-carrier.invariant.room, ap length c.carriers-carrier-end.ensures.value, c.loop-carrier-test.true)) ∙
+          ap (λ zs. take i c.loop-carrier.ats ++ zs ∷ []) c.channel_of.ensures ∙ ap (λ zs. zs ++ f i ∷ []) c.loop-carrier.invariant.ats ∙ sym (map-upto f i);
       room = rw length-set c.loop-carrier.invariant.room;
     }
 

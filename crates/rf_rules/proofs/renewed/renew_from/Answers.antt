@@ -17,6 +17,9 @@ returns-clause-value c = λ right.
     let front = off_grid show ++ banned_carriers show in
     let tail : Extends c.add_carriers.new.tally c.add_kinds.new.tally rest = rw c.in_ok-company.ensures.same at c.in_ok-add_kinds.ensures in
     let e : front ++ rest ≡ analysis show = append_assoc (off_grid show) (banned_carriers show) rest ∙ right in
-    let all : Extends c.new-tally.result c.add_kinds.new.tally (analysis show) = same-more c.new-tally.result c.add_kinds.new.tally (front ++ rest) (analysis show) e (both-more c.new-tally.result c.add_carriers.new.tally c.add_kinds.new.tally front rest c.in_ok-add_carriers.ensures tail) in
-    let w : IsWhole c.add_kinds.new.tally (analysis show) = whole c.new-tally.result c.add_kinds.new.tally (analysis show) c.new-tally.ensures all (analysis-few show (omega (arith, c.carriers.ensures.few))) in
+    let all : Extends c.new-tally.result c.add_kinds.new.tally (analysis show) =
+    same-more c.new-tally.result c.add_kinds.new.tally (front ++ rest) (analysis show) e
+    (both-more c.new-tally.result c.add_carriers.new.tally c.add_kinds.new.tally front rest c.in_ok-add_carriers.ensures tail) in
+    let w : IsWhole c.add_kinds.new.tally (analysis show) = whole c.new-tally.result c.add_kinds.new.tally (analysis show) c.new-tally.ensures all
+    (analysis-few show (omega (arith, c.carriers.ensures.few))) in
     analysed-is show _ _ (c.from_vec.ensures ∙ w.shown) w.total

@@ -20,7 +20,9 @@ returns c =
     let kind = c.args.kind in
     let mask = c.args.mask in
     let all : roles_of kind ≡ roles_of kind - 0 = omega arith in
-    let e : touched_of show ats kind mask ≡ found_in (conflict_of show ats kind) (is_touched show ats kind mask) [] (tuples (roles_of kind - 0) (upto (length ats))) = sym (found-all (conflict_of show ats kind) (is_touched show ats kind mask) (tuples (roles_of kind) (upto (length ats)))) ∙ ap (λ k. found_in (conflict_of show ats kind) (is_touched show ats kind mask) [] (tuples k (upto (length ats)))) all in
+    let e : touched_of show ats kind mask ≡ found_in (conflict_of show ats kind) (is_touched show ats kind mask) [] (tuples (roles_of kind - 0) (upto (length ats))) =
+    sym (found-all (conflict_of show ats kind) (is_touched show ats kind mask) (tuples (roles_of kind) (upto (length ats)))) ∙
+    ap (λ k. found_in (conflict_of show ats kind) (is_touched show ats kind mask) [] (tuples k (upto (length ats)))) all in
     rw e c.extend_touched.ensures
 
 pub returns-then-ask_nothing : goal.returns-then-ask_nothing
@@ -29,5 +31,9 @@ returns-then-ask_nothing c =
     let ats = c.args.ats.now in
     let kind = c.args.kind in
     let none : touched_of show ats kind c.args.mask ≡ [] = idle-touched show ats kind c.args.mask
-    (λ t. broken-far show ats kind t (omega (arith, nothing-asked show ats kind t c.requires.carriers (ap (list_all (λ (l : Lane). l.needs == 0)) (sym c.make_lanes-lanes.ensures.lanes) ∙ sym c.ask_nothing.ensures ∙ c.if-ask_nothing.true)))) in
+    (λ t. broken-far show ats kind t (omega (
+      arith,
+      nothing-asked show ats kind t c.requires.carriers
+          (ap (list_all (λ (l : Lane). l.needs == 0)) (sym c.make_lanes-lanes.ensures.lanes) ∙ sym c.ask_nothing.ensures ∙ c.if-ask_nothing.true),
+    ))) in
     rw none (none-more c.args.tally.now)

@@ -10,6 +10,7 @@ returns c =
       zones = c.requires;
       same = λ k out. elim (cases_lt k c.loop-c.c) [
         | inl p ↦ c.loop-c.invariant k p out
-        | inr p ↦ past-both c.args.old.now c.args.new.now k (omega (arith, p, ap length c.carriers.ensures.value, c.max-c-end.ensures)) (omega (arith, p, ap length c.carriers-2.ensures.value, c.max-c-end.ensures))
+        | inr p ↦ past-both c.args.old.now c.args.new.now k (omega (arith, p, ap length c.carriers.ensures.value, c.max-c-end.ensures))
+            (omega (arith, p, ap length c.carriers-2.ensures.value, c.max-c-end.ensures))
       ];
     })

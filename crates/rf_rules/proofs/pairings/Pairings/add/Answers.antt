@@ -19,7 +19,8 @@ returns-clause-covers c =
     let a = c.args.self.now in
     let value : to_z w64 (of_z w64 c.args.value) ≡ c.args.value = to_z-of_z w64 c.args.value c.ranges.value in
     let e : c.place_of_opposite.result ≡ unsigned_abs (pos 640000000 -ℤ c.args.value) = rw value at c.place_of_opposite.ensures in
-    covers-made a c.mark.new.self c.mark-2.new.self c.mark-3.new.self c.args.carrier (c.place_of_opposite.result / a.width) c.args.value c.requires.form.wide c.requires.small (ap (λ k. k / a.width) e) (first m) (second m) (third m)
+    covers-made a c.mark.new.self c.mark-2.new.self c.mark-3.new.self c.args.carrier (c.place_of_opposite.result / a.width) c.args.value c.requires.form.wide c.requires.small
+    (ap (λ k. k / a.width) e) (first m) (second m) (third m)
 
 pub returns-clause-keeps : goal.returns-clause-keeps
 returns-clause-keeps c =

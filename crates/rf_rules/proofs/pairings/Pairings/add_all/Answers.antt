@@ -30,8 +30,10 @@ value : (c : After-sum) → to_z w64 (of_z w64 c.sum.result) ≡ pair_value c.ar
 value c =
     let s = c.args.search.now in
     let e = ap (λ (l : Lane). l.term) (ready-lane s c.loop-last.last no-lane c.requires.ready c.loop-last-test.true) in
-    let term : to_z w64 (of_z w64 (get_or s.lanes.now c.loop-last.last no-lane).term) ≡ (lane_of s.show.now s.ats.now s.kind c.loop-last.last).term = told (get_or s.lanes.now c.loop-last.last no-lane).term (omega (arith, ap unsigned_abs e, ready-term s c.loop-last.last c.requires.ready)) ∙ e in
-    let own : to_z w64 (of_z w64 c.second_term-own.result) ≡ get_or (coefficients_of s.kind) (roles_of s.kind - 2) (pos 0) *ℤ pos (khz_in s.ats.now c.args.first) = to_z-of_z w64 c.second_term-own.result (record { sfits = c.second_term-own.type_inv }) ∙ c.second_term-own.ensures.value in
+    let term : to_z w64 (of_z w64 (get_or s.lanes.now c.loop-last.last no-lane).term) ≡ (lane_of s.show.now s.ats.now s.kind c.loop-last.last).term =
+    told (get_or s.lanes.now c.loop-last.last no-lane).term (omega (arith, ap unsigned_abs e, ready-term s c.loop-last.last c.requires.ready)) ∙ e in
+    let own : to_z w64 (of_z w64 c.second_term-own.result) ≡ get_or (coefficients_of s.kind) (roles_of s.kind - 2) (pos 0) *ℤ pos (khz_in s.ats.now c.args.first) =
+    to_z-of_z w64 c.second_term-own.result (record { sfits = c.second_term-own.type_inv }) ∙ c.second_term-own.ensures.value in
     to_z-of_z w64 c.sum.result (record { sfits = c.sum.type_inv }) ∙ rw (own, term) at c.sum.ensures
 
 pub add-requires-clause-small : goal.add-requires-clause-small
@@ -39,7 +41,14 @@ add-requires-clause-small c =
     let s = c.args.search.now in
     let m = (goal.at.add-requires-clause-small c).After-sum in
     let own = get_or (coefficients_of s.kind) (roles_of s.kind - 2) (pos 0) *ℤ pos (khz_in s.ats.now c.args.first) in
-    omega (arith, ap unsigned_abs (value m), abs-add own (lane_of s.show.now s.ats.now s.kind c.loop-last.last).term, ready-term s c.loop-last.last c.requires.ready, ap unsigned_abs c.second_term-own.ensures.value, c.second_term-own.ensures.bound)
+    omega (
+      arith,
+      ap unsigned_abs (value m),
+      abs-add own (lane_of s.show.now s.ats.now s.kind c.loop-last.last).term,
+      ready-term s c.loop-last.last c.requires.ready,
+      ap unsigned_abs c.second_term-own.ensures.value,
+      c.second_term-own.ensures.bound,
+    )
 
 pub loop-last-preserved : goal.loop-last-preserved
 loop-last-preserved c =

@@ -15,9 +15,15 @@ returns c =
     let one : cells ≡ replicate 1 c.all.result = c.in_ok-vec.ensures.items_if_clones_equal (λ y same. same) in
     let each : (i k : ℕ) → k < length s.ats.now → has_bit (get_or cells (i % length cells) 0) k ≡ true = λ i k h.
     let first : i % length cells < 1 = omega (arith, c.in_ok-vec.ensures.len) in
-    ap (λ zs. has_bit (get_or zs (i % length cells) 0) k) one ∙ ap (λ m. has_bit m k) (get_or-replicate 1 (i % length cells) c.all.result 0 first) ∙ c.all.ensures k (omega (arith, h, c.requires.few)) in
+    ap (λ zs. has_bit (get_or zs (i % length cells) 0) k) one ∙ ap (λ m. has_bit m k) (get_or-replicate 1 (i % length cells) c.all.result 0 first) ∙
+    c.all.ensures k (omega (arith, h, c.requires.few)) in
     record {
       form = record { wide = omega (arith, c.from.ensures, c.widest.ensures.some); some = omega (arith, c.in_ok-vec.ensures.len) };
-      wide = λ k h. omega (arith, c.widest.ensures.wide k no-lane (omega (arith, h, ready-lanes s c.requires.ready)), ap (λ (l : Lane). l.needs) (ready-lane s k no-lane c.requires.ready h), c.from.ensures);
+      wide = λ k h. omega (
+        arith,
+        c.widest.ensures.wide k no-lane (omega (arith, h, ready-lanes s c.requires.ready)),
+        ap (λ (l : Lane). l.needs) (ready-lane s k no-lane c.requires.ready h),
+        c.from.ensures,
+      );
       pairs = λ k d h _ _ _ product _ _. each _ k h;
     }

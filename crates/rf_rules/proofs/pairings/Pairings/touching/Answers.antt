@@ -15,7 +15,12 @@ loop-first-init c =
     let s = c.args.search.now in
     record {
       form = record { wide = omega (arith, c.from.ensures, c.widest.ensures.some); some = omega (arith, c.in_ok-vec.ensures.len, c.room.ensures) };
-      wide = λ k h. omega (arith, c.widest.ensures.wide k no-lane (omega (arith, h, ready-lanes s c.requires.ready)), ap (λ (l : Lane). l.needs) (ready-lane s k no-lane c.requires.ready h), c.from.ensures);
+      wide = λ k h. omega (
+        arith,
+        c.widest.ensures.wide k no-lane (omega (arith, h, ready-lanes s c.requires.ready)),
+        ap (λ (l : Lane). l.needs) (ready-lane s k no-lane c.requires.ready h),
+        c.from.ensures,
+      );
       pairs = λ k d h. absurd (omega (arith, h));
     }
 

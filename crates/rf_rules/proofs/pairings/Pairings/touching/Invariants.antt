@@ -9,5 +9,6 @@ abbrev pub invariant-loop-first : goal.invariant-loop-first
 invariant-loop-first l = record {
   form : IsPairings l.pairings;
   wide : (c : ℕ) → c < length l.search.ats.now → asked l.search.show.now l.search.kind c ≤ l.pairings.width;
-  pairs : (c d : ℕ) → c < l.first → d < length l.search.ats.now → (has_bit l.mask c || has_bit l.mask d) ≡ true → stands l.search c ≡ true → stands l.search d ≡ true → Covers l.pairings c (pair_value l.search c d);
+  pairs : (c d : ℕ) → c < l.first → d < length l.search.ats.now → (has_bit l.mask c || has_bit l.mask d) ≡ true → stands l.search c ≡ true → stands l.search d ≡ true →
+      Covers l.pairings c (pair_value l.search c d);
 }

@@ -32,7 +32,8 @@ pub breaks-requires : goal.breaks-requires
 breaks-requires t c =
     let m = (goal.at.breaks-requires t c).After-with-next in
     let s = c.args.self.now in
-    let push : AreCarriers s.ats.now (take c.args.depth c.args.roles ++ c.loop-carrier.carrier ∷ []) = AreCarriers-push s.ats.now (take c.args.depth c.args.roles) c.loop-carrier.carrier c.requires.taken c.loop-carrier-test.true in
+    let push : AreCarriers s.ats.now (take c.args.depth c.args.roles ++ c.loop-carrier.carrier ∷ []) =
+    AreCarriers-push s.ats.now (take c.args.depth c.args.roles) c.loop-carrier.carrier c.requires.taken c.loop-carrier-test.true in
     let next : to_z w64 (of_z w64 c.with-next.result) ≡ c.with-next.result = to_z-of_z w64 c.with-next.result (record { sfits = c.with-next.type_inv }) in
     let same : length s.coefficients.now ≡ roles_of s.kind = ap length c.requires.ready.coefficients in
     let deep : c.args.depth + 1 < roles_of s.kind = omega (arith, same, c.if-depth-self.false, c.requires.depth) in
@@ -44,16 +45,19 @@ judged t c =
     let m = (goal.at.After-breaks t c).After-with-next in
     let s = c.args.self.now in
     let left : roles_of s.kind - c.args.depth - 1 ≡ roles_of s.kind - (c.args.depth + 1) = omega arith in
-    ap (λ u. breaks_from s.show.now s.ats.now s.kind u (roles_of s.kind - c.args.depth - 1)) (sym (more t m)) ∙ ap (breaks_from s.show.now s.ats.now s.kind (take (c.args.depth + 1) (set c.args.roles c.args.depth c.loop-carrier.carrier))) left ∙ sym c.breaks.ensures
+    ap (λ u. breaks_from s.show.now s.ats.now s.kind u (roles_of s.kind - c.args.depth - 1)) (sym (more t m)) ∙
+    ap (breaks_from s.show.now s.ats.now s.kind (take (c.args.depth + 1) (set c.args.roles c.args.depth c.loop-carrier.carrier))) left ∙ sym c.breaks.ensures
 
 pub loop-carrier-preserved : goal.loop-carrier-preserved
 loop-carrier-preserved t c =
-    any-more (test t (goal.at.loop-carrier-preserved t c).Start) c.loop-carrier.carrier (c.loop-carrier.carrier + 1) (omega arith) c.loop-carrier.invariant (judged t (goal.at.loop-carrier-preserved t c).After-breaks ∙ c.if-breaks.false)
+    any-more (test t (goal.at.loop-carrier-preserved t c).Start) c.loop-carrier.carrier (c.loop-carrier.carrier + 1) (omega arith) c.loop-carrier.invariant
+    (judged t (goal.at.loop-carrier-preserved t c).After-breaks ∙ c.if-breaks.false)
 
 pub returns-then-breaks : goal.returns-then-breaks
 returns-then-breaks t c =
     let s = c.args.self.now in
-    let yes = any-found (test t (goal.at.returns-then-breaks t c).Start) (length s.ats.now) c.loop-carrier.carrier c.loop-carrier-test.true (judged t (goal.at.returns-then-breaks t c).After-breaks ∙ c.if-breaks.true) in
+    let yes = any-found (test t (goal.at.returns-then-breaks t c).Start) (length s.ats.now) c.loop-carrier.carrier c.loop-carrier-test.true
+    (judged t (goal.at.returns-then-breaks t c).After-breaks ∙ c.if-breaks.true) in
     sym (sym (breaks-next s.show.now s.ats.now s.kind (take c.args.depth c.args.roles) (roles_of s.kind - c.args.depth - 1) (roles_of s.kind - c.args.depth) (omega (arith, c.requires.depth))) ∙ yes)
 
 pub returns : goal.returns
@@ -61,4 +65,5 @@ returns t c =
     let s = c.args.self.now in
     let end : c.loop-carrier.carrier ≡ length s.ats.now = omega arith in
     let q = test t (goal.at.returns t c).Start in
-    sym (sym (breaks-next s.show.now s.ats.now s.kind (take c.args.depth c.args.roles) (roles_of s.kind - c.args.depth - 1) (roles_of s.kind - c.args.depth) (omega (arith, c.requires.depth))) ∙ ap (λ n. list_any q (upto n)) (sym end) ∙ c.loop-carrier.invariant)
+    sym (sym (breaks-next s.show.now s.ats.now s.kind (take c.args.depth c.args.roles) (roles_of s.kind - c.args.depth - 1) (roles_of s.kind - c.args.depth)
+    (omega (arith, c.requires.depth))) ∙ ap (λ n. list_any q (upto n)) (sym end) ∙ c.loop-carrier.invariant)

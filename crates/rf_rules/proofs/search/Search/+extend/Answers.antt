@@ -28,7 +28,8 @@ pub extend-requires : goal.extend-requires
 extend-requires t c =
     let m = (goal.at.extend-requires t c).After-with-next in
     let s = c.args.self.now in
-    let push : AreCarriers s.ats.now (take c.args.depth c.args.roles ++ c.loop-carrier.carrier ∷ []) = AreCarriers-push s.ats.now (take c.args.depth c.args.roles) c.loop-carrier.carrier c.requires.taken c.loop-carrier-test.true in
+    let push : AreCarriers s.ats.now (take c.args.depth c.args.roles ++ c.loop-carrier.carrier ∷ []) =
+    AreCarriers-push s.ats.now (take c.args.depth c.args.roles) c.loop-carrier.carrier c.requires.taken c.loop-carrier-test.true in
     let next : to_z w64 (of_z w64 c.with-next.result) ≡ c.with-next.result = to_z-of_z w64 c.with-next.result (record { sfits = c.with-next.type_inv }) in
     let same : length s.coefficients.now ≡ roles_of s.kind = ap length c.requires.ready.coefficients in
     let deep : c.args.depth + 1 < roles_of s.kind = omega (arith, same, c.if-depth-self.false, c.requires.depth) in
@@ -40,8 +41,10 @@ loop-carrier-preserved t c =
     let s = c.args.self.now in
     let n = length s.ats.now in
     let left : roles_of s.kind - (c.args.depth + 1) ≡ roles_of s.kind - c.args.depth - 1 = omega arith in
-    let e : broken_in s (take (c.args.depth + 1) (set c.args.roles c.args.depth c.loop-carrier.carrier)) (tuples (roles_of s.kind - (c.args.depth + 1)) (upto n)) ≡ broken_in s (take c.args.depth c.args.roles ++ c.loop-carrier.carrier ∷ []) (tuples (roles_of s.kind - c.args.depth - 1) (upto n)) =
-    ap (λ u. broken_in s u (tuples (roles_of s.kind - (c.args.depth + 1)) (upto n))) (more t m) ∙ ap (λ k. broken_in s (take c.args.depth c.args.roles ++ c.loop-carrier.carrier ∷ []) (tuples k (upto n))) left in
+    let e : broken_in s (take (c.args.depth + 1) (set c.args.roles c.args.depth c.loop-carrier.carrier)) (tuples (roles_of s.kind - (c.args.depth + 1)) (upto n)) ≡
+    broken_in s (take c.args.depth c.args.roles ++ c.loop-carrier.carrier ∷ []) (tuples (roles_of s.kind - c.args.depth - 1) (upto n)) =
+    ap (λ u. broken_in s u (tuples (roles_of s.kind - (c.args.depth + 1)) (upto n))) (more t m) ∙
+    ap (λ k. broken_in s (take c.args.depth c.args.roles ++ c.loop-carrier.carrier ∷ []) (tuples k (upto n))) left in
     step-more s (take c.args.depth c.args.roles) (roles_of s.kind - c.args.depth - 1) n c.loop-carrier.carrier c.args.tally.now c.loop-carrier.tally c.extend.new.tally c.loop-carrier.invariant (same-more c.loop-carrier.tally c.extend.new.tally _ _ e c.in_ok-extend.ensures)
 
 pub returns : goal.returns
@@ -49,7 +52,8 @@ returns t c =
     let s = c.args.self.now in
     let k = roles_of s.kind - c.args.depth - 1 in
     let left : suc (roles_of s.kind - c.args.depth - 1) ≡ roles_of s.kind - c.args.depth = omega (arith, c.requires.depth) in
-    same-more c.args.tally.now c.loop-carrier.tally _ _ (ap (λ j. broken_in s (take c.args.depth c.args.roles) (tuples j (upto (length s.ats.now)))) left) (step-end s (take c.args.depth c.args.roles) k (length s.ats.now) c.loop-carrier.carrier c.args.tally.now c.loop-carrier.tally (omega arith) c.loop-carrier.invariant)
+    same-more c.args.tally.now c.loop-carrier.tally _ _ (ap (λ j. broken_in s (take c.args.depth c.args.roles) (tuples j (upto (length s.ats.now)))) left)
+    (step-end s (take c.args.depth c.args.roles) k (length s.ats.now) c.loop-carrier.carrier c.args.tally.now c.loop-carrier.tally (omega arith) c.loop-carrier.invariant)
 
 -- how many roles are taken
 taken : (t : ℕ) (c : After-near-near t) → length (take c.args.depth c.args.roles) ≡ c.args.depth
@@ -60,11 +64,13 @@ returns-then-is_none t c =
     let m = (goal.at.returns-then-is_none t c).After-near-near in
     let s = c.args.self.now in
     let u = take c.args.depth c.args.roles in
-    none-next s u (roles_of s.kind - length u - 1) (roles_of s.kind - c.args.depth) (length s.ats.now) c.args.tally.now (omega (arith, taken t m, c.requires.depth)) (λ k h. c.near-near.ensures k h (c.if-is_none.ensures k))
+    none-next s u (roles_of s.kind - length u - 1) (roles_of s.kind - c.args.depth) (length s.ats.now) c.args.tally.now (omega (arith, taken t m, c.requires.depth))
+    (λ k h. c.near-near.ensures k h (c.if-is_none.ensures k))
 
 pub loop-carrier-preserved-then-not-has : goal.loop-carrier-preserved-then-not-has
 loop-carrier-preserved-then-not-has t c =
     let m = (goal.at.loop-carrier-preserved-then-not-has t c).After-near-near in
     let s = c.args.self.now in
     let u = take c.args.depth c.args.roles in
-    step-quiet s u (roles_of s.kind - length u - 1) (roles_of s.kind - c.args.depth - 1) (length s.ats.now) c.loop-carrier.carrier c.args.tally.now c.loop-carrier.tally (omega (arith, taken t m)) c.loop-carrier.invariant (c.near-near.ensures c.loop-carrier.carrier c.loop-carrier-test.true (sym c.has.ensures ∙ c.if-not-has.true))
+    step-quiet s u (roles_of s.kind - length u - 1) (roles_of s.kind - c.args.depth - 1) (length s.ats.now) c.loop-carrier.carrier c.args.tally.now c.loop-carrier.tally
+    (omega (arith, taken t m)) c.loop-carrier.invariant (c.near-near.ensures c.loop-carrier.carrier c.loop-carrier-test.true (sym c.has.ensures ∙ c.if-not-has.true))

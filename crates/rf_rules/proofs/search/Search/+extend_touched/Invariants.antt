@@ -10,4 +10,5 @@ abbrev pub decreases-extend_touched : goal.decreases-extend_touched
 decreases-extend_touched l = roles_of l.self.now.kind - l.depth
 
 abbrev pub invariant-loop-carrier : goal.invariant-loop-carrier
-invariant-loop-carrier l = Extends l.initial.tally l.tally (touched_in l.self l.touch.mask (take l.depth l.roles) (begun (roles_of l.self.kind - l.depth - 1) (upto (length l.self.ats.now)) (upto l.carrier)))
+invariant-loop-carrier l = Extends l.initial.tally l.tally (touched_in l.self l.touch.mask (take l.depth l.roles)
+    (begun (roles_of l.self.kind - l.depth - 1) (upto (length l.self.ats.now)) (upto l.carrier)))

@@ -19,12 +19,14 @@ returns-then-depth-self t c =
     rw one c.last_sources.ensures
 
 pub loop-carrier-init : goal.loop-carrier-init
-loop-carrier-init t c = sources-start c.args.self.now c.args.lo c.args.hi (take c.args.depth c.args.roles) (roles_of c.args.self.now.kind - 1 - c.args.depth - 1) (length c.args.self.now.ats.now) c.args.found.now.items
+loop-carrier-init t c = sources-start c.args.self.now c.args.lo c.args.hi (take c.args.depth c.args.roles) (roles_of c.args.self.now.kind - 1 - c.args.depth - 1)
+    (length c.args.self.now.ats.now) c.args.found.now.items
 
 pub loop-carrier-preserved-then-is_hopeless : goal.loop-carrier-preserved-then-is_hopeless
 loop-carrier-preserved-then-is_hopeless t c =
     let s = c.args.self.now in
-    sources-skip s c.args.lo c.args.hi (take c.args.depth c.args.roles) (roles_of s.kind - 1 - c.args.depth - 1) (length s.ats.now) c.loop-carrier.carrier c.args.found.now.items c.loop-carrier.found.items c.loop-carrier.invariant
+    sources-skip s c.args.lo c.args.hi (take c.args.depth c.args.roles) (roles_of s.kind - 1 - c.args.depth - 1)
+    (length s.ats.now) c.loop-carrier.carrier c.args.found.now.items c.loop-carrier.found.items c.loop-carrier.invariant
     (λ u. noted-no_candidate s.show.now s.ats.now s.kind c.args.lo c.args.hi _ (c.if-is_hopeless.ensures u))
 
 more : (t : ℕ) (c : After-with-next t) → take (c.args.depth + 1) (set c.args.roles c.args.depth c.loop-carrier.carrier) ≡ take c.args.depth c.args.roles ++ c.loop-carrier.carrier ∷ []
@@ -34,7 +36,8 @@ pub sources-requires : goal.sources-requires
 sources-requires t c =
     let m = (goal.at.sources-requires t c).After-with-next in
     let s = c.args.self.now in
-    let push : AreCarriers s.ats.now (take c.args.depth c.args.roles ++ c.loop-carrier.carrier ∷ []) = AreCarriers-push s.ats.now (take c.args.depth c.args.roles) c.loop-carrier.carrier c.requires.taken c.loop-carrier-test.true in
+    let push : AreCarriers s.ats.now (take c.args.depth c.args.roles ++ c.loop-carrier.carrier ∷ []) =
+    AreCarriers-push s.ats.now (take c.args.depth c.args.roles) c.loop-carrier.carrier c.requires.taken c.loop-carrier-test.true in
     let next : to_z w64 (of_z w64 c.with-next.result) ≡ c.with-next.result = to_z-of_z w64 c.with-next.result (record { sfits = c.with-next.type_inv }) in
     let same : length s.coefficients.now ≡ roles_of s.kind = ap length c.requires.ready.coefficients in
     let deep : c.args.depth + 1 + 1 < roles_of s.kind = omega (arith, same, c.if-depth-self.false, c.requires.depth) in
@@ -46,12 +49,19 @@ loop-carrier-preserved t c =
     let s = c.args.self.now in
     let n = length s.ats.now in
     let left : roles_of s.kind - 1 - (c.args.depth + 1) ≡ roles_of s.kind - 1 - c.args.depth - 1 = omega arith in
-    let e : noted_in s c.args.lo c.args.hi (take (c.args.depth + 1) (set c.args.roles c.args.depth c.loop-carrier.carrier)) (tuples (roles_of s.kind - 1 - (c.args.depth + 1)) (upto n)) ≡ noted_in s c.args.lo c.args.hi (take c.args.depth c.args.roles ++ c.loop-carrier.carrier ∷ []) (tuples (roles_of s.kind - 1 - c.args.depth - 1) (upto n)) =
-    ap (λ u. noted_in s c.args.lo c.args.hi u (tuples (roles_of s.kind - 1 - (c.args.depth + 1)) (upto n))) (more t m) ∙ ap (λ k. noted_in s c.args.lo c.args.hi (take c.args.depth c.args.roles ++ c.loop-carrier.carrier ∷ []) (tuples k (upto n))) left in
-    sources-more s c.args.lo c.args.hi (take c.args.depth c.args.roles) (roles_of s.kind - 1 - c.args.depth - 1) n c.loop-carrier.carrier c.args.found.now.items c.loop-carrier.found.items c.sources.new.found.items c.loop-carrier.invariant (c.in_ok-sources.ensures ∙ ap (λ us. c.loop-carrier.found.items ++ us) e)
+    let e : noted_in s c.args.lo c.args.hi (take (c.args.depth + 1) (set c.args.roles c.args.depth c.loop-carrier.carrier))
+    (tuples (roles_of s.kind - 1 - (c.args.depth + 1)) (upto n)) ≡
+    noted_in s c.args.lo c.args.hi (take c.args.depth c.args.roles ++ c.loop-carrier.carrier ∷ []) (tuples (roles_of s.kind - 1 - c.args.depth - 1) (upto n)) =
+    ap (λ u. noted_in s c.args.lo c.args.hi u (tuples (roles_of s.kind - 1 - (c.args.depth + 1)) (upto n))) (more t m) ∙
+    ap (λ k. noted_in s c.args.lo c.args.hi (take c.args.depth c.args.roles ++ c.loop-carrier.carrier ∷ []) (tuples k (upto n))) left in
+    sources-more s c.args.lo c.args.hi (take c.args.depth c.args.roles)
+    (roles_of s.kind - 1 - c.args.depth - 1) n c.loop-carrier.carrier c.args.found.now.items c.loop-carrier.found.items c.sources.new.found.items c.loop-carrier.invariant
+    (c.in_ok-sources.ensures ∙ ap (λ us. c.loop-carrier.found.items ++ us) e)
 
 pub returns : goal.returns
 returns t c =
     let s = c.args.self.now in
     let same : length s.coefficients.now ≡ roles_of s.kind = ap length c.requires.ready.coefficients in
-    sources-end s c.args.lo c.args.hi (take c.args.depth c.args.roles) (roles_of s.kind - 1 - c.args.depth - 1) (roles_of s.kind - 1 - c.args.depth) (length s.ats.now) c.loop-carrier.carrier c.args.found.now.items c.loop-carrier.found.items (omega arith) (omega (arith, same, c.if-depth-self.false, c.requires.depth)) c.loop-carrier.invariant
+    sources-end s c.args.lo c.args.hi (take c.args.depth c.args.roles) (roles_of s.kind - 1 - c.args.depth - 1) (roles_of s.kind - 1 - c.args.depth)
+    (length s.ats.now) c.loop-carrier.carrier c.args.found.now.items c.loop-carrier.found.items (omega arith)
+    (omega (arith, same, c.if-depth-self.false, c.requires.depth)) c.loop-carrier.invariant

@@ -43,22 +43,27 @@ needs c =
     let s = c.args.self.now in
     let t = take c.args.depth c.args.roles in
     let first : get_or t 0 0 ≡ get_or c.args.roles 0 0 = get_or-take c.args.depth c.args.roles 0 0 (omega (arith, two_roles s.kind, c.requires.depth)) in
-    let last : (get_or s.lanes.now c.loop-carrier.carrier no-lane).needs ≡ asked s.show.now s.kind c.loop-carrier.carrier = ap (λ (l : Lane). l.needs) (ready-lane s c.loop-carrier.carrier no-lane c.requires.ready c.loop-carrier-test.true) in
+    let last : (get_or s.lanes.now c.loop-carrier.carrier no-lane).needs ≡ asked s.show.now s.kind c.loop-carrier.carrier =
+    ap (λ (l : Lane). l.needs) (ready-lane s c.loop-carrier.carrier no-lane c.requires.ready c.loop-carrier-test.true) in
     let floor : c.floor-floor.result ≡ floor_of s.show.now s.kind (get_or t 0 0) = rw first c.floor-floor.ensures in
-    c.max-needs.ensures ∙ ap (λ k. max k (get_or s.lanes.now c.loop-carrier.carrier no-lane).needs) floor ∙ ap (λ k. max (floor_of s.show.now s.kind (get_or t 0 0)) k) last ∙ sym (margin-push s.show.now s.kind t c.loop-carrier.carrier (omega (arith, long c, c.requires.depth)))
+    c.max-needs.ensures ∙ ap (λ k. max k (get_or s.lanes.now c.loop-carrier.carrier no-lane).needs) floor ∙ ap (λ k. max (floor_of s.show.now s.kind (get_or t 0 0)) k) last ∙
+    sym (margin-push s.show.now s.kind t c.loop-carrier.carrier (omega (arith, long c, c.requires.depth)))
 
 pub loop-carrier-preserved-then-distance-from : goal.loop-carrier-preserved-then-distance-from
 loop-carrier-preserved-then-distance-from c =
     let m = (goal.at.loop-carrier-preserved-then-distance-from c).After-max-needs in
     let s = c.args.self.now in
     let t = take c.args.depth c.args.roles ++ c.loop-carrier.carrier ∷ [] in
-    let far : is_broken s.show.now s.ats.now s.kind t ≡ false = broken-far s.show.now s.ats.now s.kind t (omega (arith, needs m, c.distance-distance.ensures, c.from.ensures, c.if-distance-from.true)) in
-    any-more (test (goal.at.loop-carrier-preserved-then-distance-from c).Start) c.loop-carrier.carrier (c.loop-carrier.carrier + 1) (omega arith) c.loop-carrier.invariant (breaks-last s.show.now s.ats.now s.kind t ∙ far)
+    let far : is_broken s.show.now s.ats.now s.kind t ≡ false = broken-far s.show.now s.ats.now s.kind t
+    (omega (arith, needs m, c.distance-distance.ensures, c.from.ensures, c.if-distance-from.true)) in
+    any-more (test (goal.at.loop-carrier-preserved-then-distance-from c).Start) c.loop-carrier.carrier (c.loop-carrier.carrier + 1) (omega arith) c.loop-carrier.invariant
+    (breaks-last s.show.now s.ats.now s.kind t ∙ far)
 
 pub stands-requires-clause-taken : goal.stands-requires-clause-taken
 stands-requires-clause-taken c =
     let m = (goal.at.stands-requires-clause-taken c).After-max-needs in
-    let push : AreCarriers c.args.self.now.ats.now (take c.args.depth c.args.roles ++ c.loop-carrier.carrier ∷ []) = AreCarriers-push c.args.self.now.ats.now (take c.args.depth c.args.roles) c.loop-carrier.carrier c.requires.taken c.loop-carrier-test.true in
+    let push : AreCarriers c.args.self.now.ats.now (take c.args.depth c.args.roles ++ c.loop-carrier.carrier ∷ []) =
+    AreCarriers-push c.args.self.now.ats.now (take c.args.depth c.args.roles) c.loop-carrier.carrier c.requires.taken c.loop-carrier-test.true in
     rw (more m) push
 
 -- the carrier's instance is broken exactly where it is one
@@ -67,17 +72,20 @@ judged c =
     let m = (goal.at.After-stands c).After-max-needs in
     let s = c.args.self.now in
     let t = take c.args.depth c.args.roles ++ c.loop-carrier.carrier ∷ [] in
-    let near : is_broken s.show.now s.ats.now s.kind t ≡ is_candidate s.show.now s.ats.now s.kind t = broken-near s.show.now s.ats.now s.kind t (omega (arith, needs m, c.distance-distance.ensures, c.from.ensures, c.if-distance-from.false)) in
+    let near : is_broken s.show.now s.ats.now s.kind t ≡ is_candidate s.show.now s.ats.now s.kind t =
+    broken-near s.show.now s.ats.now s.kind t (omega (arith, needs m, c.distance-distance.ensures, c.from.ensures, c.if-distance-from.false)) in
     breaks-last s.show.now s.ats.now s.kind t ∙ near ∙ ap (is_candidate s.show.now s.ats.now s.kind) (sym (more m)) ∙ sym c.stands.ensures
 
 pub loop-carrier-preserved : goal.loop-carrier-preserved
 loop-carrier-preserved c =
-    any-more (test (goal.at.loop-carrier-preserved c).Start) c.loop-carrier.carrier (c.loop-carrier.carrier + 1) (omega arith) c.loop-carrier.invariant (judged (goal.at.loop-carrier-preserved c).After-stands ∙ c.if-stands.false)
+    any-more (test (goal.at.loop-carrier-preserved c).Start) c.loop-carrier.carrier (c.loop-carrier.carrier + 1) (omega arith) c.loop-carrier.invariant
+    (judged (goal.at.loop-carrier-preserved c).After-stands ∙ c.if-stands.false)
 
 pub returns-then-stands : goal.returns-then-stands
 returns-then-stands c =
     let s = c.args.self.now in
-    let yes = any-found (test (goal.at.returns-then-stands c).Start) (length s.ats.now) c.loop-carrier.carrier c.loop-carrier-test.true (judged (goal.at.returns-then-stands c).After-stands ∙ c.if-stands.true) in
+    let yes = any-found (test (goal.at.returns-then-stands c).Start) (length s.ats.now) c.loop-carrier.carrier c.loop-carrier-test.true
+    (judged (goal.at.returns-then-stands c).After-stands ∙ c.if-stands.true) in
     sym (sym (breaks-next s.show.now s.ats.now s.kind (take c.args.depth c.args.roles) 0 1 refl) ∙ yes)
 
 pub returns : goal.returns

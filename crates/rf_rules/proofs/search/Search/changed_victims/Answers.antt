@@ -34,16 +34,19 @@ needs c =
     let s = c.args.self.now in
     let t = take c.args.depth c.args.roles in
     let first : get_or t 0 0 ≡ get_or c.args.roles 0 0 = get_or-take c.args.depth c.args.roles 0 0 (omega (arith, two_roles s.kind, c.requires.depth)) in
-    let last : (get_or s.lanes.now c.loop-carrier.carrier no-lane).needs ≡ asked s.show.now s.kind c.loop-carrier.carrier = ap (λ (l : Lane). l.needs) (ready-lane s c.loop-carrier.carrier no-lane c.requires.ready c.loop-carrier-test.true) in
+    let last : (get_or s.lanes.now c.loop-carrier.carrier no-lane).needs ≡ asked s.show.now s.kind c.loop-carrier.carrier =
+    ap (λ (l : Lane). l.needs) (ready-lane s c.loop-carrier.carrier no-lane c.requires.ready c.loop-carrier-test.true) in
     let floor : c.floor-floor.result ≡ floor_of s.show.now s.kind (get_or t 0 0) = rw first c.floor-floor.ensures in
-    c.max-needs.ensures ∙ ap (λ k. max k (get_or s.lanes.now c.loop-carrier.carrier no-lane).needs) floor ∙ ap (λ k. max (floor_of s.show.now s.kind (get_or t 0 0)) k) last ∙ sym (margin-push s.show.now s.kind t c.loop-carrier.carrier (omega (arith, long c, c.requires.depth)))
+    c.max-needs.ensures ∙ ap (λ k. max k (get_or s.lanes.now c.loop-carrier.carrier no-lane).needs) floor ∙ ap (λ k. max (floor_of s.show.now s.kind (get_or t 0 0)) k) last ∙
+    sym (margin-push s.show.now s.kind t c.loop-carrier.carrier (omega (arith, long c, c.requires.depth)))
 
 pub loop-carrier-preserved-then-distance-from : goal.loop-carrier-preserved-then-distance-from
 loop-carrier-preserved-then-distance-from c =
     let m = (goal.at.loop-carrier-preserved-then-distance-from c).After-max-needs in
     let s = c.args.self.now in
     skip-far s c.args.mask (take c.args.depth c.args.roles) (length s.ats.now) c.loop-carrier.carrier c.args.tally.now c.loop-carrier.tally
-    (broken-far s.show.now s.ats.now s.kind (take c.args.depth c.args.roles ++ c.loop-carrier.carrier ∷ []) (omega (arith, needs m, c.distance-distance.ensures, c.from.ensures, c.if-distance-from.true))) c.loop-carrier.invariant
+    (broken-far s.show.now s.ats.now s.kind (take c.args.depth c.args.roles ++ c.loop-carrier.carrier ∷ [])
+    (omega (arith, needs m, c.distance-distance.ensures, c.from.ensures, c.if-distance-from.true))) c.loop-carrier.invariant
 
 pub judge-requires-clause-carriers : goal.judge-requires-clause-carriers
 judge-requires-clause-carriers c = omega (arith, c.requires.known.few, ap (λ (d : ShowData). length d.carriers) c.requires.same, c.requires.ready.carriers)
@@ -54,7 +57,8 @@ judge-requires-clause-opened c = sym c.is_open.ensures ∙ c.if-not-is_open.fals
 pub judge-requires-clause-mates : goal.judge-requires-clause-mates
 judge-requires-clause-mates c =
     let s = c.args.self.now in
-    let there : c.loop-carrier.carrier < length c.args.company.now.show.now.carriers = omega (arith, ap (λ (d : ShowData). length d.carriers) c.requires.same, c.requires.ready.carriers, c.loop-carrier-test.true) in
+    let there : c.loop-carrier.carrier < length c.args.company.now.show.now.carriers =
+    omega (arith, ap (λ (d : ShowData). length d.carriers) c.requires.same, c.requires.ready.carriers, c.loop-carrier-test.true) in
     let size : length s.coefficients.now ≡ roles_of s.kind = ap length c.requires.ready.coefficients in
     rw (c.requires.same, size) at (c.mates-mates.ensures c.loop-carrier.carrier there)
 
@@ -71,12 +75,15 @@ mates-mates-requires-clause-taken c = all-below _ _ _ (omega (arith, ap (λ (d :
 pub loop-carrier-preserved : goal.loop-carrier-preserved
 loop-carrier-preserved c =
     let s = c.args.self.now in
-    judged s c.args.mask (take c.args.depth c.args.roles) (length s.ats.now) c.loop-carrier.carrier c.args.tally.now c.loop-carrier.tally c.judge.new.tally (sym c.has.ensures ∙ c.if-not-has.false) c.loop-carrier.invariant c.in_ok-judge.ensures
+    judged s c.args.mask (take c.args.depth c.args.roles) (length s.ats.now) c.loop-carrier.carrier c.args.tally.now c.loop-carrier.tally c.judge.new.tally
+    (sym c.has.ensures ∙ c.if-not-has.false) c.loop-carrier.invariant c.in_ok-judge.ensures
 
 pub returns : goal.returns
-returns c = end c.args.self.now c.args.mask (take c.args.depth c.args.roles) 0 1 (length c.args.self.now.ats.now) c.loop-carrier.carrier c.args.tally.now c.loop-carrier.tally (omega arith) (omega arith) c.loop-carrier.invariant
+returns c = end c.args.self.now c.args.mask (take c.args.depth c.args.roles) 0 1 (length c.args.self.now.ats.now) c.loop-carrier.carrier c.args.tally.now c.loop-carrier.tally
+    (omega arith) (omega arith) c.loop-carrier.invariant
 
 pub loop-carrier-preserved-then-not-has : goal.loop-carrier-preserved-then-not-has
 loop-carrier-preserved-then-not-has c =
     let s = c.args.self.now in
-    skip-other s c.args.mask (take c.args.depth c.args.roles) (length s.ats.now) c.loop-carrier.carrier c.args.tally.now c.loop-carrier.tally c.requires.others (sym c.has.ensures ∙ c.if-not-has.true) c.loop-carrier.invariant
+    skip-other s c.args.mask (take c.args.depth c.args.roles) (length s.ats.now) c.loop-carrier.carrier c.args.tally.now c.loop-carrier.tally c.requires.others
+    (sym c.has.ensures ∙ c.if-not-has.true) c.loop-carrier.invariant

@@ -14,7 +14,8 @@ abbrev no-lane : Lane
 no-lane = record { term = pos 0; needs = 0 }
 
 -- the carrier's lane without conversions
-lane : (c : Start) → to_z w64 (of_z w64 (get_or c.args.self.now.lanes.now c.args.carrier no-lane).term) ≡ (lane_of c.args.self.now.show.now c.args.self.now.ats.now c.args.self.now.kind c.args.carrier).term
+lane : (c : Start) → to_z w64 (of_z w64 (get_or c.args.self.now.lanes.now c.args.carrier no-lane).term) ≡
+    (lane_of c.args.self.now.show.now c.args.self.now.ats.now c.args.self.now.kind c.args.carrier).term
 lane c =
     let s = c.args.self.now in
     let term = (lane_of s.show.now s.ats.now s.kind c.args.carrier).term in
@@ -38,5 +39,7 @@ returns c =
     let term = get_or (coefficients_of s.kind) (length t) (pos 0) *ℤ pos (khz_in s.ats.now c.args.carrier) in
     let p : to_z w64 (of_z w64 c.args.product) ≡ value_of s.kind (khzs_in s.ats.now t) = to_z-of_z w64 c.args.product c.ranges.product ∙ c.requires.product in
     let q : to_z w64 (of_z w64 (get_or s.lanes.now c.args.carrier no-lane).term) ≡ term = lane (goal.at.returns c).Start ∙ lane-term s.show.now s.ats.now s.kind t c.args.carrier c.requires.depth in
-    let sum : c.sum.result ≡ value_of s.kind (khzs_in s.ats.now (t ++ c.args.carrier ∷ [])) = c.sum.ensures ∙ ap (λ (z : ℤ). z +ℤ to_z w64 (of_z w64 (get_or s.lanes.now c.args.carrier no-lane).term)) p ∙ ap (λ (z : ℤ). value_of s.kind (khzs_in s.ats.now t) +ℤ z) q ∙ sym (partial-push s.kind s.ats.now t c.args.carrier) in
+    let sum : c.sum.result ≡ value_of s.kind (khzs_in s.ats.now (t ++ c.args.carrier ∷ [])) = c.sum.ensures ∙
+    ap (λ (z : ℤ). z +ℤ to_z w64 (of_z w64 (get_or s.lanes.now c.args.carrier no-lane).term)) p ∙ ap (λ (z : ℤ). value_of s.kind (khzs_in s.ats.now t) +ℤ z) q ∙
+    sym (partial-push s.kind s.ats.now t c.args.carrier) in
     c.unsigned_abs.ensures.value ∙ distance-is s.kind s.ats.now (t ++ c.args.carrier ∷ []) _ (to_z-of_z w64 c.sum.result (record { sfits = c.sum.type_inv }) ∙ sum)

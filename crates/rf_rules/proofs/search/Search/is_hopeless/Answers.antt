@@ -5,7 +5,8 @@ use Rattle.rf_rules.proofs.HopelessLemmas.{hopeless-unassigned, hopeless-twice, 
 use Rattle.rf_rules.proofs.search.Search.is_hopeless.Goals as goal
 
 pub returns-then-is_none : goal.returns-then-is_none
-returns-then-is_none c = λ u. let s = c.args.self.now in hopeless-unassigned s.show.now s.ats.now s.kind c.args.t.now u c.args.carrier (ap is_some (sym c.at.ensures) ∙ c.is_none.ensures ∙ ap not c.if-is_none.true)
+returns-then-is_none c = λ u. let s = c.args.self.now in hopeless-unassigned s.show.now s.ats.now s.kind c.args.t.now u c.args.carrier
+    (ap is_some (sym c.at.ensures) ∙ c.is_none.ensures ∙ ap not c.if-is_none.true)
 
 pub returns-then-contains : goal.returns-then-contains
 returns-then-contains c = λ u. let s = c.args.self.now in hopeless-twice s.show.now s.ats.now s.kind c.args.t.now u c.args.carrier (sym c.contains.ensures.value ∙ c.if-contains.true)

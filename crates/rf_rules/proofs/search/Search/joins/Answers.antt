@@ -23,4 +23,5 @@ pub returns : goal.returns
 returns c =
     let s = c.args.self.now in
     let some : is_some (at_in s.ats.now c.args.last) ≡ true = ap is_some (sym c.at.ensures) ∙ c.is_none.ensures ∙ ap not c.if-is_none.false in
-    c.has.ensures ∙ c.requires.mates ∙ last-joins s.show.now s.ats.now s.kind c.args.t.now c.args.last c.requires.opened some (sym c.contains.ensures.value ∙ c.if-contains.false) (sym c.ends_in_order.ensures ∙ c.if-not-ends_in_order.false)
+    c.has.ensures ∙ c.requires.mates ∙ last-joins s.show.now s.ats.now s.kind c.args.t.now c.args.last c.requires.opened some (sym c.contains.ensures.value ∙ c.if-contains.false)
+    (sym c.ends_in_order.ensures ∙ c.if-not-ends_in_order.false)

@@ -33,6 +33,7 @@ returns c =
     let s = c.args.self.now in
     let yes = near (goal.at.returns c).After-joins ∙ c.if-not-joins.false in
     let front : c.args.t.now ≡ sources_of (c.args.t.now ++ c.args.last ∷ []) = sources-push c.args.t.now c.args.last in
-    let product : to_z w64 (of_z w64 c.args.product) ≡ product_of s.ats.now s.kind (sources_of (c.args.t.now ++ c.args.last ∷ [])) = to_z-of_z w64 c.args.product c.ranges.product ∙ c.requires.product ∙ ap (product_of s.ats.now s.kind) front in
+    let product : to_z w64 (of_z w64 c.args.product) ≡ product_of s.ats.now s.kind (sources_of (c.args.t.now ++ c.args.last ∷ [])) = to_z-of_z w64 c.args.product c.ranges.product ∙
+    c.requires.product ∙ ap (product_of s.ats.now s.kind) front in
     let same = c.conflict.ensures ∙ conflict-is s.show.now s.ats.now s.kind (c.args.t.now ++ c.args.last ∷ []) _ c.args.distance c.args.needs product c.requires.distance c.requires.needs in
     rw (found-one (conflict_of s.show.now s.ats.now s.kind) _ (c.args.t.now ++ c.args.last ∷ []) yes, ← same) c.add.ensures

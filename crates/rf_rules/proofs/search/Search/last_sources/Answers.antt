@@ -23,7 +23,8 @@ note-requires-clause-opened c = sym c.is_open.ensures ∙ c.if-not-is_open.false
 pub note-requires-clause-mates : goal.note-requires-clause-mates
 note-requires-clause-mates c =
     let s = c.args.self.now in
-    let there : c.loop-carrier.carrier < length c.args.company.now.show.now.carriers = omega (arith, ap (λ (d : ShowData). length d.carriers) c.requires.same, c.requires.ready.carriers, c.loop-carrier-test.true) in
+    let there : c.loop-carrier.carrier < length c.args.company.now.show.now.carriers =
+    omega (arith, ap (λ (d : ShowData). length d.carriers) c.requires.same, c.requires.ready.carriers, c.loop-carrier-test.true) in
     let size : length s.coefficients.now ≡ roles_of s.kind = ap length c.requires.ready.coefficients in
     rw (c.requires.same, size) at (c.mates-mates.ensures c.loop-carrier.carrier there)
 
@@ -37,4 +38,5 @@ loop-carrier-preserved c =
 pub returns : goal.returns
 returns c =
     let s = c.args.self.now in
-    sources-end s c.args.lo c.args.hi (take c.args.depth c.args.roles) 0 1 (length s.ats.now) c.loop-carrier.carrier c.args.found.now.items c.loop-carrier.found.items (omega arith) (omega arith) c.loop-carrier.invariant
+    sources-end s c.args.lo c.args.hi (take c.args.depth c.args.roles) 0 1 (length s.ats.now) c.loop-carrier.carrier c.args.found.now.items c.loop-carrier.found.items (omega arith)
+    (omega arith) c.loop-carrier.invariant

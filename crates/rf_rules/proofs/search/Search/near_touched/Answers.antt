@@ -37,7 +37,8 @@ returns-then-meets c =
     λ k h out.
     let quiet : broken_in s (t ++ k ∷ []) (tuples 1 (upto (length s.ats.now))) ≡ [] = quiet-second s p t k c.requires.ready c.requires.touch.all n h (sym (ap (λ m. has_bit m k) mask) ∙ out) in
     let met = met-front c.args.touch.now.mask t (k ∷ []) (sym c.meets.ensures ∙ c.if-meets.true) in
-    ap (λ j. touched_in s c.args.touch.now.mask (t ++ k ∷ []) (tuples j (upto (length s.ats.now)))) left ∙ all-touched s c.args.touch.now.mask (t ++ k ∷ []) (tuples 1 (upto (length s.ats.now))) met ∙ quiet
+    ap (λ j. touched_in s c.args.touch.now.mask (t ++ k ∷ []) (tuples j (upto (length s.ats.now)))) left ∙
+    all-touched s c.args.touch.now.mask (t ++ k ∷ []) (tuples 1 (upto (length s.ats.now))) met ∙ quiet
 
 pub returns : goal.returns
 returns c =

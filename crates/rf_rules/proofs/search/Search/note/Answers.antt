@@ -11,7 +11,12 @@ use Rattle.rf_rules.proofs.search.Search.note.Goals.{After-with-value, After-is_
 pub joins-requires-clause-roles : goal.joins-requires-clause-roles
 joins-requires-clause-roles c =
     let four : length c.args.roles ≡ 4 = omega arith in
-    omega (arith, length-take-le c.args.depth c.args.roles (omega (arith, four, four_roles c.args.self.now.kind, c.requires.depth)), ordered-sources c.args.self.now.kind c.requires.victim, c.requires.depth)
+    omega (
+      arith,
+      length-take-le c.args.depth c.args.roles (omega (arith, four, four_roles c.args.self.now.kind, c.requires.depth)),
+      ordered-sources c.args.self.now.kind c.requires.victim,
+      c.requires.depth,
+    )
 
 value : (c : After-is_between) → to_z w64 (of_z w64 c.with-value.result) ≡ product_of c.args.self.now.ats.now c.args.self.now.kind (take c.args.depth c.args.roles ++ c.args.last ∷ [])
 value c = to_z-of_z w64 c.with-value.result (record { sfits = c.with-value.type_inv }) ∙ c.with-value.ensures
@@ -22,12 +27,15 @@ between c = ap (is_between c.args.lo c.args.hi) (sym (value c)) ∙ sym c.is_bet
 pub returns-then-not-joins : goal.returns-then-not-joins
 returns-then-not-joins c =
     let s = c.args.self.now in
-    note-none s c.args.lo c.args.hi (take c.args.depth c.args.roles ++ c.args.last ∷ []) c.args.found.now.items (noted-no_candidate s.show.now s.ats.now s.kind c.args.lo c.args.hi (take c.args.depth c.args.roles ++ c.args.last ∷ []) (sym c.joins.ensures ∙ c.if-not-joins.true))
+    note-none s c.args.lo c.args.hi (take c.args.depth c.args.roles ++ c.args.last ∷ []) c.args.found.now.items
+    (noted-no_candidate s.show.now s.ats.now s.kind c.args.lo c.args.hi (take c.args.depth c.args.roles ++ c.args.last ∷ []) (sym c.joins.ensures ∙ c.if-not-joins.true))
 
 pub returns-then-not-is_between : goal.returns-then-not-is_between
 returns-then-not-is_between c =
     let s = c.args.self.now in
-    note-none s c.args.lo c.args.hi (take c.args.depth c.args.roles ++ c.args.last ∷ []) c.args.found.now.items (noted-outside s.show.now s.ats.now s.kind c.args.lo c.args.hi (take c.args.depth c.args.roles ++ c.args.last ∷ []) (between (goal.at.returns-then-not-is_between c).After-is_between ∙ c.if-not-is_between.true))
+    note-none s c.args.lo c.args.hi (take c.args.depth c.args.roles ++ c.args.last ∷ []) c.args.found.now.items
+    (noted-outside s.show.now s.ats.now s.kind c.args.lo c.args.hi (take c.args.depth c.args.roles ++ c.args.last ∷ [])
+    (between (goal.at.returns-then-not-is_between c).After-is_between ∙ c.if-not-is_between.true))
 
 pub returns : goal.returns
 returns c =
@@ -35,6 +43,7 @@ returns c =
     let t = take c.args.depth c.args.roles ++ c.args.last ∷ [] in
     let b = (goal.at.returns c).After-is_between in
     let four : length c.args.roles ≡ 4 = omega arith in
-    let whole : take (c.args.depth + 1) (set c.args.roles c.args.depth c.args.last) ≡ t = take_more_set c.args.roles c.args.depth c.args.last (omega (arith, four, four_roles s.kind, c.requires.depth)) in
+    let whole : take (c.args.depth + 1) (set c.args.roles c.args.depth c.args.last) ≡ t =
+    take_more_set c.args.roles c.args.depth c.args.last (omega (arith, four, four_roles s.kind, c.requires.depth)) in
     let yes = noted-both s.show.now s.ats.now s.kind c.args.lo c.args.hi t (between b ∙ c.if-not-is_between.false) (sym c.joins.ensures ∙ c.if-not-joins.false) in
     c.in_ok-push.ensures.items ∙ note-one s c.args.lo c.args.hi t c.args.found.now.items _ yes (product-is s.ats.now s.kind t c.padded.result _ (value b) (rw whole at c.padded.ensures))
