@@ -46,7 +46,8 @@ holds_is case b cond held = each_below-from (count_of case cond.carrier) (λ k. 
 fails_is : (case : Case) (b : Box) (cond : Cond) (k : ℕ) → IsUnmet b cond k → k < count_of case cond.carrier → holds_throughout case b cond ≡ false
 fails_is case b cond k unmet low = elim (cases_Bool (holds_throughout case b cond)) [
   | inr no_ ↦ no_
-  | inl all ↦ absurd (true≢false (sym (implied (b cond.carrier k) (is_met cond k) (each_below-at (count_of case cond.carrier) (λ j. not (b cond.carrier j) || is_met cond j) k all low) unmet.here) ∙ unmet.unmet))
+  | inl all ↦ absurd (true≢false (sym (implied (b cond.carrier k) (is_met cond k)
+      (each_below-at (count_of case cond.carrier) (λ j. not (b cond.carrier j) || is_met cond j) k all low) unmet.here) ∙ unmet.unmet))
 ]
 
 -- ---- the conditions left open

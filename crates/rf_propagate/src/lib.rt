@@ -3,6 +3,7 @@
 
 mod both;
 mod engine;
+mod furthest;
 mod line;
 mod opening;
 mod outcome;
@@ -11,6 +12,7 @@ mod theory;
 
 pub use both::Both;
 pub use engine::Engine;
+pub use furthest::{Furthest, Reach};
 pub use line::apply_line;
 pub use opening::open_from;
 pub use outcome::{Outcome, outcome_of};

@@ -94,7 +94,8 @@ upto_none case counts none = record { is = none; small = ap (list_all (λ m. nat
 pub upto_more : (case : Case) (c n : ℕ) (xs ys : List ℕ) → CountsUpTo case xs c → c < length case.carriers → n ≡ count_of case c → n ≤ INDEX_LIMIT → ys ≡ xs ++ n ∷ [] → CountsUpTo case ys (c + 1)
 upto_more case c n xs ys so known e fits is = record {
   is = is ∙ counts_more case c n xs known so.is e;
-  small = ap (list_all (λ m. nat_le m INDEX_LIMIT)) is ∙ list_all-append (λ m. nat_le m INDEX_LIMIT) xs (n ∷ []) ∙ and_from _ _ so.small (and_from (nat_le n INDEX_LIMIT) true (le-leb n INDEX_LIMIT fits) refl);
+  small = ap (list_all (λ m. nat_le m INDEX_LIMIT)) is ∙ list_all-append (λ m. nat_le m INDEX_LIMIT) xs (n ∷ []) ∙
+      and_from _ _ so.small (and_from (nat_le n INDEX_LIMIT) true (le-leb n INDEX_LIMIT fits) refl);
 }
 
 pub upto_all : (case : Case) (xs : List ℕ) (n : ℕ) → CountsUpTo case xs n → length case.carriers ≤ n → xs ≡ counts_of case

@@ -54,7 +54,8 @@ freqs_with case has others freqs place c k fixed apart =
 
 -- the index breaks the instance just where its frequency breaks the form
 pub breaks_form : (case : Case) (has : Box) (kind : Kind) (others freqs : List ℕ) (place c k : ℕ) → AreFixed case has others freqs → is_among others c ≡ false
-    → breaks case kind (insert others place c) (indices_with case has c k) ≡ nat_lt (unsigned_abs (form (coefficients_of kind) (insert (map pos freqs) place (pos (freq_of case c k))))) (margin_of case kind (insert others place c))
+    → breaks case kind (insert others place c) (indices_with case has c k) ≡
+    nat_lt (unsigned_abs (form (coefficients_of kind) (insert (map pos freqs) place (pos (freq_of case c k))))) (margin_of case kind (insert others place c))
 breaks_form case has kind others freqs place c k fixed apart =
     ap (λ fs. is_broken kind fs (margin_of case kind (insert others place c))) (freqs_with case has others freqs place c k fixed apart)
     ∙ ap (λ zs. nat_lt (unsigned_abs (form (coefficients_of kind) zs)) (margin_of case kind (insert others place c))) (map_insert pos freqs place (freq_of case c k))
@@ -87,7 +88,8 @@ pub ruled_out : (case : Case) (has : Box) (kind : Kind) (others freqs : List ℕ
     → ((k : ℕ) → k < count_of case c → between lo hi k ≡ true → breaks case kind (insert others place c) (indices_with case has c k) ≡ true)
     → is_ruled_out case has kind (insert others place c) c lo hi ≡ true
 ruled_out case has kind others freqs place c lo hi good fixed broken =
-    and_from _ _ (and_from _ _ good (all_insert (λ o. (o == c) || is_some (only_index case has o)) others place c (here (is_some (only_index case has c))) (some_or_target case has c others fixed.sole)))
+    and_from _ _ (and_from _ _ good (all_insert (λ o. (o == c) || is_some (only_index case has o)) others place c (here (is_some (only_index case has c)))
+    (some_or_target case has c others fixed.sole)))
     (each_below-from (count_of case c) (λ k. not (between lo hi k) || breaks case kind (insert others place c) (indices_with case has c k))
     (λ k known. outside_or (between lo hi k) _ (broken k known)))
   where

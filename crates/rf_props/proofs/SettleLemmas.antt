@@ -59,7 +59,8 @@ struck_out case t kinds c k counts here s =
 
 roles_size : (case : Case) (kind : Kind) (roles : List ℕ) → is_instance case kind roles ≡ true → length roles ≡ roles_of kind
 roles_size case kind roles good =
-    eqb-true (length roles) (roles_of kind) (and_parts (length roles == roles_of kind) _ (and_parts _ (are_distinct roles) (and_parts _ (is_in_order kind roles) (and_parts _ (are_together case roles) good).0).0).0).0
+    eqb-true (length roles) (roles_of kind) (and_parts (length roles == roles_of kind) _
+    (and_parts _ (are_distinct roles) (and_parts _ (is_in_order kind roles) (and_parts _ (are_together case roles) good).0).0).0).0
 
 -- where every role of every kind is done, nothing more is struck
 pub settled_by : (case : Case) (t : Trace) (kinds : List Kind) → t.counts ≡ counts_of case → AreAllDone case (left t) kinds → IsSettled case kinds (box_of t)

@@ -1,5 +1,35 @@
 -- What a sweep keeps as it goes on.
-use Rattle.std.proofs.Common.{◌≡◌, ◌∙◌, ℕ, suc, ◌+◌, ◌-◌, ◌<◌, ◌≤◌, ◌==◌, Bool, true, false, List, [], ◌∷◌, ◌++◌, length, get_or, take, set, refl, sym, ap, subst, inl, inr, arith, length-append, append_assoc}
+use Rattle.std.proofs.Common.{
+  ◌≡◌,
+  ◌∙◌,
+  ℕ,
+  suc,
+  ◌+◌,
+  ◌-◌,
+  ◌<◌,
+  ◌≤◌,
+  ◌==◌,
+  Bool,
+  true,
+  false,
+  List,
+  [],
+  ◌∷◌,
+  ◌++◌,
+  length,
+  get_or,
+  take,
+  set,
+  refl,
+  sym,
+  ap,
+  subst,
+  inl,
+  inr,
+  arith,
+  length-append,
+  append_assoc,
+}
 use Rattle.std.specs.Prelude.{insert, is_some, nat_lt, max, pos, ℤ, ◌≤ℤ◌, ◌↔◌}
 use Rattle.std.specs.List.{list_all}
 use Rattle.std.proofs.lemmas.Bool.{cases_Bool, cases_lt, and_parts, and_from, and_left, true≢false, ltb-true}
@@ -172,7 +202,8 @@ sweeping_start case flags kind place first carrier t = record { on = stays case 
 
 pub sweeping_more : {case : Case} {flags : List Bool} {kind : Kind} {place : ℕ} {first : List ℕ} {carrier : ℕ → ℕ} {start mid now : Trace} {i : ℕ}
     → Sweeping case flags kind place first carrier start mid i
-    → mid.counts ≡ counts_of case → HaveFew (left mid) flags → GoesOn case mid now → IsSwept case (left now) flags kind place (first ++ carrier i ∷ []) → Sweeping case flags kind place first carrier start now (i + 1)
+    → mid.counts ≡ counts_of case → HaveFew (left mid) flags → GoesOn case mid now → IsSwept case (left now) flags kind place (first ++ carrier i ∷ []) →
+    Sweeping case flags kind place first carrier start now (i + 1)
 sweeping_more {case} {flags} {kind} {place} {first} {carrier} {start} {mid} {now} {i} so counts few next swept = record {
   on = goes_on so.on next;
   swept = λ turn low. elim (lt_cases turn i (omega arith)) [
@@ -219,7 +250,8 @@ pub known_swept : (case : Case) (t : Trace) (flags known : List Bool) (kind : Ki
 known_swept case t flags known kind place first r done last all one = record { each = λ rest c whole flagged. at rest c whole }
   where
     every : (rest : List ℕ) → length ((first ++ r ∷ []) ++ rest) + 1 ≡ roles_of kind → list_all (is_flagged known) ((first ++ r ∷ []) ++ rest) ≡ true
-    every [] whole = ap (list_all (is_flagged known)) (append-nil (first ++ r ∷ [])) ∙ list_all-append (is_flagged known) first (r ∷ []) ∙ and_from _ _ all (and_from (is_flagged known r) true one refl)
+    every [] whole = ap (list_all (is_flagged known)) (append-nil (first ++ r ∷ [])) ∙ list_all-append (is_flagged known) first (r ∷ []) ∙
+        and_from _ _ all (and_from (is_flagged known r) true one refl)
     every (o ∷ rest) whole = absurd (omega (arith, length-append (first ++ r ∷ []) (o ∷ rest), length-append first (r ∷ []), whole, last))
 
     at : (rest : List ℕ) (c : ℕ) → length ((first ++ r ∷ []) ++ rest) + 1 ≡ roles_of kind → IsClear case (left t) kind (insert ((first ++ r ∷ []) ++ rest) place c) c

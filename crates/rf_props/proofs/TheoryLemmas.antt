@@ -23,9 +23,12 @@ same_facts t a b c =
     let pa : IsProp (t.counts ≡ counts_of (case_of t.problem.now)) = hlevel props in
     let pb : IsProp (IsStrictlyIncreasing (numbers_of t.lines)) = hlevel props in
     let pc : IsProp (AreKnown (case_of t.problem.now) t.lines) = hlevel props in
-    ap {A = t.counts ≡ counts_of (case_of t.problem.now)} {B = ProblemTheory} (λ x. record { problem = t.problem; counts = t.counts; lines = t.lines; counted = x; rising = b; in_range = c }) (pa a t.counted)
-    ∙ ap {A = IsStrictlyIncreasing (numbers_of t.lines)} {B = ProblemTheory} (λ x. record { problem = t.problem; counts = t.counts; lines = t.lines; counted = t.counted; rising = x; in_range = c }) (pb b t.rising)
-    ∙ ap {A = AreKnown (case_of t.problem.now) t.lines} {B = ProblemTheory} (λ x. record { problem = t.problem; counts = t.counts; lines = t.lines; counted = t.counted; rising = t.rising; in_range = x }) (pc c t.in_range)
+    ap {A = t.counts ≡ counts_of (case_of t.problem.now)} {B = ProblemTheory}
+    (λ x. record { problem = t.problem; counts = t.counts; lines = t.lines; counted = x; rising = b; in_range = c }) (pa a t.counted)
+    ∙ ap {A = IsStrictlyIncreasing (numbers_of t.lines)} {B = ProblemTheory}
+    (λ x. record { problem = t.problem; counts = t.counts; lines = t.lines; counted = t.counted; rising = x; in_range = c }) (pb b t.rising)
+    ∙ ap {A = AreKnown (case_of t.problem.now) t.lines} {B = ProblemTheory}
+    (λ x. record { problem = t.problem; counts = t.counts; lines = t.lines; counted = t.counted; rising = t.rising; in_range = x }) (pc c t.in_range)
 
 pub same_theory : (t : ProblemTheory) (ls : List Line) → ls ≡ t.lines
     → (a : t.counts ≡ counts_of (case_of t.problem.now)) (b : IsStrictlyIncreasing (numbers_of ls)) (c : AreKnown (case_of t.problem.now) ls)

@@ -77,7 +77,8 @@ pub fn settle<'a>(
     ensures theory { engine.new.theory ≡ engine.old.theory }
     ensures counts { trail.new.counts ≡ trail.old.counts }
     ensures sound { Extends (case_of engine.old.theory.problem.now) engine.old.theory.lines trail.old.entries trail.new.entries }
-    ensures closed { (path : List Cond) → result ≡ Ok Outcome.Quiet → IsOnPath (case_of engine.old.theory.problem.now) path (box_of trail.old) → IsClosed (case_of engine.old.theory.problem.now) path (box_of trail.new) }
+    ensures closed { (path : List Cond) → result ≡ Ok Outcome.Quiet → IsOnPath (case_of engine.old.theory.problem.now) path (box_of trail.old) →
+        IsClosed (case_of engine.old.theory.problem.now) path (box_of trail.new) }
     ensures wiped { (c : ℕ) → result ≡ Ok (Outcome.Wiped c) → IsEmptied (case_of engine.old.theory.problem.now) (box_of trail.new) c }
 {
     engine.settle(trail)

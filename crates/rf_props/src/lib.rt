@@ -17,6 +17,7 @@ mod single;
 mod strike;
 mod sweep;
 mod theory;
+mod windows;
 
 pub use bans::Bans;
 pub use engine::{Rules, engine_of, engine_with, settle};

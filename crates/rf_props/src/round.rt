@@ -129,8 +129,8 @@ fn target_role(kind: Kind, turn: usize) -> usize
     }
 }
 
-// The most that a carrier asks of a kind, in kilohertz.
-fn reach(problem: &Problem, kind: Kind) -> u32
+/// The most that a carrier asks of a kind, in kilohertz.
+pub fn reach(problem: &Problem, kind: Kind) -> u32
     ensures { IsReach (case_of problem.now) kind result }
 {
     let mut reach = 0;

@@ -9,11 +9,12 @@ ghost use Rattle.rf_propagate.specs.Laws.{AreKnown, numbers_of};
 
 use crate::apply::{apply_ban, apply_rule};
 use crate::lines::Lines;
+use crate::windows::offer_windows;
 use rf_base::{Items, NoMemory};
 use rf_domain::Domains;
 use rf_log::{Cond, Hint};
 use rf_problem::Problem;
-use rf_propagate::{Applies, Grows, Theory, apply_line};
+use rf_propagate::{Applies, Furthest, Grows, Theory, apply_line};
 use rf_trail::Trail;
 use std::alloc::Global;
 
@@ -118,5 +119,9 @@ impl<'a> Applies for ProblemTheory<'a> {
                 hi,
             } => apply_rule(self.problem, sets, *kind, roles, *target, *lo, *hi),
         }
+    }
+
+    fn offer(&self, sets: &Domains, carrier: usize, offered: &mut Furthest) {
+        offer_windows(self.problem, sets, carrier, offered);
     }
 }

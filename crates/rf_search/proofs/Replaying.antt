@@ -39,7 +39,8 @@ all_last p (y ∷ ys) x = ap (λ t. p y && t) (all_last p ys x) ∙ assoc (p y) 
     assoc false b c = refl
 
 box_more : (case : Case) (conds : List Cond) (cond : Cond) (c k : ℕ) → box_of case (conds ++ cond ∷ []) c k ≡ (box_of case conds c k && is_met_by c k cond)
-box_more case conds cond c k = ap (λ t. nat_lt k (count_of case c) && t) (all_last (is_met_by c k) conds cond) ∙ assoc (nat_lt k (count_of case c)) (list_all (is_met_by c k) conds) (is_met_by c k cond)
+box_more case conds cond c k = ap (λ t. nat_lt k (count_of case c) && t) (all_last (is_met_by c k) conds cond) ∙
+    assoc (nat_lt k (count_of case c)) (list_all (is_met_by c k) conds) (is_met_by c k cond)
   where
     assoc : (a b c : Bool) → (a && (b && c)) ≡ ((a && b) && c)
     assoc true b c = refl

@@ -14,11 +14,12 @@ use rf_terms::roles as roles_of;
 use rf_trail::{Entry, Trail};
 use std::alloc::AllocError;
 
-/// Conditions and hints that may be a valid nogood line.
+/// Conditions and hints that may be a valid nogood line, and of each hint the carrier that it takes from.
 #[derive(Clone, Copy)]
 pub struct Candidate<'a> {
     pub conds: &'a [Cond],
     pub hints: &'a [Hint],
+    pub carriers: &'a [usize],
 }
 
 // Keeps what gives the hint of entry `n` its effect: the removals from the carriers that it looks at.
@@ -139,6 +140,7 @@ pub fn analyse<'a, T: Applies>(
     cover(trail, kept.as_mut_slice(), carrier, trail.len());
     let mut conds = Vec::new(bump);
     let mut hints = Vec::new(bump);
+    let mut carriers = Vec::new(bump);
     let mut level = search.levels.len();
     let entries = trail.len();
     for back in 0..entries {
@@ -149,6 +151,7 @@ pub fn analyse<'a, T: Applies>(
         level = level_at(search.levels.as_slice(), level, n);
         if let Some(hint) = reason(theory, search, level, n) {
             hints.push(hint)?;
+            carriers.push(trail.entry(n).carrier)?;
             need_for(
                 theory,
                 trail,
@@ -167,9 +170,11 @@ pub fn analyse<'a, T: Applies>(
         }
     }
     hints.as_mut_slice().reverse();
+    carriers.as_mut_slice().reverse();
     Ok(Candidate {
         conds: into_bump_slice(conds),
         hints: into_bump_slice(hints),
+        carriers: into_bump_slice(carriers),
     })
 }
 

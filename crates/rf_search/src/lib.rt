@@ -9,6 +9,7 @@ mod cover;
 mod handing;
 mod hints;
 mod laws;
+mod lean;
 mod level;
 mod limits;
 mod out;

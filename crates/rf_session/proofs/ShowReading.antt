@@ -91,7 +91,8 @@ module _ (bytes : List ℕ) (before now after : Outside) (show : ShowData) (read
   pub Reading-others : WhereTold left left' (λ x y. (name : List ℕ) → are_naming name (lines_of (input_of reader x)) ≡ false → after.faults name ≡ now.faults name) →
       (name : List ℕ) → are_naming name (lines_of (script bytes)) ≡ false → after.faults name ≡ before.faults name
   Reading-others told name none =
-      let (rest', is, others) = told_then left left' so_far.rest (λ x y. (other : List ℕ) → are_naming other (lines_of (input_of reader x)) ≡ false → after.faults other ≡ now.faults other) so_far.told told in
+      let (rest', is, others) = told_then left left' so_far.rest (λ x y. (other : List ℕ) → are_naming other (lines_of (input_of reader x)) ≡ false →
+      after.faults other ≡ now.faults other) so_far.told told in
       others name (rest_unnamed name (lines_of (script bytes)) so_far.done (lines_of (input_of reader so_far.rest)) so_far.all none) ∙ so_far.others name none
 
   pub Reading-more : (new : ShowData) → WhereTold left left' (λ x y. Reads show (Ok new) now after (input_of reader x) (input_of reader' y)) →

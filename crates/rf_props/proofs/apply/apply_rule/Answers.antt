@@ -12,4 +12,5 @@ is_ruled_out-requires-clause-known c =
     let all = c.args.all.now in
     let places : List ℕ = get_or all 0 0 ∷ get_or all 1 0 ∷ get_or all 2 0 ∷ get_or all 3 0 ∷ [] in
     subst (λ (m : ℕ). All (λ x. x < n) (take m places)) (sym c.roles.ensures.value)
-    (known_roles (case_of c.args.problem.now) n (roles_of c.args.kind) c.args.target all places (count_is c.args.problem.now) (four c.args.all.now c.told-all) (c.are_roles.ensures.0 c.if-not-are_roles.false))
+    (known_roles (case_of c.args.problem.now) n (roles_of c.args.kind) c.args.target all places (count_is c.args.problem.now) (four c.args.all.now c.told-all)
+    (c.are_roles.ensures.0 c.if-not-are_roles.false))

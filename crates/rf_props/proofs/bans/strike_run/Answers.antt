@@ -23,9 +23,11 @@ run c = record {
 pub returns-in_err-remove_banned-clause-sound : goal.returns-in_err-remove_banned-clause-sound
 returns-in_err-remove_banned-clause-sound c = λ lines.
     c.remove_banned.ensures.sound (case_of c.args.problem.now) lines c.requires.counts
-    (run_barred (case_of c.args.problem.now) c.flags-flags.result.now c.args.carrier c.args.from c.next_flag-first.result c.next_flag-end.result (run ((goal.at.returns-in_err-remove_banned-clause-sound c).After-remove_banned)))
+    (run_barred (case_of c.args.problem.now) c.flags-flags.result.now c.args.carrier c.args.from c.next_flag-first.result c.next_flag-end.result
+    (run ((goal.at.returns-in_err-remove_banned-clause-sound c).After-remove_banned)))
 
 pub returns-clause-sound : goal.returns-clause-sound
 returns-clause-sound c = λ lines.
     c.remove_banned.ensures.sound (case_of c.args.problem.now) lines c.requires.counts
-    (run_barred (case_of c.args.problem.now) c.flags-flags.result.now c.args.carrier c.args.from c.next_flag-first.result c.next_flag-end.result (run ((goal.at.returns-clause-sound c).After-remove_banned)))
+    (run_barred (case_of c.args.problem.now) c.flags-flags.result.now c.args.carrier c.args.from c.next_flag-first.result c.next_flag-end.result
+    (run ((goal.at.returns-clause-sound c).After-remove_banned)))

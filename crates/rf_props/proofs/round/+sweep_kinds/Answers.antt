@@ -39,6 +39,7 @@ returns-in_ok-sweep_kind-in-len1-up-clause-sound t c = λ lines. grows_on (c.swe
 pub returns-in_ok-sweep_kind-in-len1-up-clause-swept : goal.returns-in_ok-sweep_kind-in-len1-up-clause-swept
 returns-in_ok-sweep_kind-in-len1-up-clause-swept t c =
     let first : GoesOn (case_of c.args.problem.now) c.args.trail.now c.sweep_kind.new.trail = record { counts = c.sweep_kind.ensures.counts; sound = c.sweep_kind.ensures.sound } in
-    kinds_after {case = case_of c.args.problem.now} {mid = c.sweep_kind.new.trail} {now = c.sweep_kinds.new.trail} c.args.kinds.now _ _ c.sweep_kinds.result (first_and_rest c.args.kinds.now _ c.in-len1-up.len_at_least)
+    kinds_after {case = case_of c.args.problem.now} {mid = c.sweep_kind.new.trail} {now = c.sweep_kinds.new.trail} c.args.kinds.now _ _ c.sweep_kinds.result
+    (first_and_rest c.args.kinds.now _ c.in-len1-up.len_at_least)
     (c.sweep_kind.ensures.counts ∙ c.requires.counts) (few_on first c.requires.few) (record { counts = c.sweep_kinds.ensures.counts; sound = c.sweep_kinds.ensures.sound })
     c.in_ok-sweep_kind-in-len1-up.ensures.swept c.sweep_kinds.ensures.swept

@@ -14,7 +14,8 @@ returns-then-reach-eq0-clause-sound c = λ lines. same
 
 pub returns-then-reach-eq0-clause-swept : goal.returns-then-reach-eq0-clause-swept
 returns-then-reach-eq0-clause-swept c =
-    unasked_done (case_of c.args.problem.now) c.args.trail.now c.args.single.now c.args.kind c.requires.counts (subst (IsReach (case_of c.args.problem.now) c.args.kind) c.if-reach-eq0.true c.reach-reach.ensures)
+    unasked_done (case_of c.args.problem.now) c.args.trail.now c.args.single.now c.args.kind c.requires.counts
+    (subst (IsReach (case_of c.args.problem.now) c.args.kind) c.if-reach-eq0.true c.reach-reach.ensures)
 
 pub loop-turn-init : goal.loop-turn-init
 loop-turn-init c = (turns_start (case_of c.args.problem.now) c.args.single.now c.args.kind c.args.trail.now, c.requires.live)
@@ -22,7 +23,8 @@ loop-turn-init c = (turns_start (case_of c.args.problem.now) c.args.single.now c
 pub extend-requires-clause-ready : goal.extend-requires-clause-ready
 extend-requires-clause-ready c =
     let low : c.loop-turn.turn < roles_of c.args.kind = omega (arith, c.loop-turn-test.true, c.roles-turn-end.ensures.value) in
-    let known : IsSwept (case_of c.args.problem.now) (left c.args.trail.now) c.args.known.now c.args.kind c.target_role.result [] = c.requires.done.each c.target_role.result (omega (arith, c.target_role.ensures, role_of_turn c.args.kind c.loop-turn.turn low)) in
+    let known : IsSwept (case_of c.args.problem.now) (left c.args.trail.now) c.args.known.now c.args.kind c.target_role.result [] =
+    c.requires.done.each c.target_role.result (omega (arith, c.target_role.ensures, role_of_turn c.args.kind c.loop-turn.turn low)) in
     ready_on c.loop-turn.invariant.0.on c.requires.counts (record { few = c.requires.few; few_known = c.requires.few_known; done = known })
 
 pub returns-in_err-extend-clause-sound : goal.returns-in_err-extend-clause-sound

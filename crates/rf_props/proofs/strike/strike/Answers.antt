@@ -88,7 +88,8 @@ returns-clause-sound c = λ lines.
     let first = c.in-Some.range.0 in
     let last = c.in-Some.range.1 in
     rule_step case lines c.args.trail.now c.remove_because.new.self c.args.target first last (Rule c.args.kind c.padded.result c.args.place first last)
-    (rule_is case lines c.args.trail.now c.args.kind c.args.place c.args.others.now c.args.freqs.now c.padded.result c.args.target first last c.requires.counts (known_target c) c.requires.place c.requires.others
+    (rule_is case lines c.args.trail.now c.args.kind c.args.place c.args.others.now c.args.freqs.now c.padded.result c.args.target first last c.requires.counts
+    (known_target c) c.requires.place c.requires.others
     (is_good c) c.requires.fixed (is_broken c)
     (ap (λ n. take n c.padded.result) (sym (roles_size c)) ∙ c.padded.ensures.same ∙ c.with_target-all.ensures)
     (λ i over. c.padded.ensures.zero i (omega (arith, roles_size c, over))))

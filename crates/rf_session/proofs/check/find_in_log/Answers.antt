@@ -15,7 +15,8 @@ pub returns-in-Ok-TooLarge-clause-found : goal.returns-in-Ok-TooLarge-clause-fou
 returns-in-Ok-TooLarge-clause-found g c =
     let got = got_of c.in-Ok-TooLarge.field-0 in
     FoundInLog-fetched (judging_of c.args.judge) (Ok LogLarge) c.args.show.now c.args.log.now got _ _
-    (c.in-Ok-TooLarge.ensures.brought None) c.in-Ok-TooLarge.ensures.kept (subst (λ f. FindsOn (judging_of c.args.judge) c.args.show.now (got_of f) (Ok LogLarge)) (sym c.in-Ok-TooLarge.field-0-is) refl)
+    (c.in-Ok-TooLarge.ensures.brought None) c.in-Ok-TooLarge.ensures.kept
+    (subst (λ f. FindsOn (judging_of c.args.judge) c.args.show.now (got_of f) (Ok LogLarge)) (sym c.in-Ok-TooLarge.field-0-is) refl)
 
 pub returns-in-Ok-Fault-clause-found : goal.returns-in-Ok-Fault-clause-found
 returns-in-Ok-Fault-clause-found g c =

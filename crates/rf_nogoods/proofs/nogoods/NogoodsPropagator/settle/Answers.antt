@@ -45,7 +45,8 @@ returns-then-left-before-clause-blocked g c = λ quiet.
     let case = g.T.Theory.case c.args.theory.now in
     let counts = c.passes.invariant.kept.counts ∙ c.requires.counts in
     let is = c.as_mut_slice.ensures.value ∙ c.passes.invariant.held in
-    subst (λ (ls : List Line). Blocks case (box_of c.sweep.new.trail) ls) (sym (held_after c.as_mut_slice.result.now c.sweep.new.lines c.passes.self-inside.lines.items c.args.self.now _ c.sweep.ensures.same
+    subst (λ (ls : List Line). Blocks case (box_of c.sweep.new.trail) ls)
+    (sym (held_after c.as_mut_slice.result.now c.sweep.new.lines c.passes.self-inside.lines.items c.args.self.now _ c.sweep.ensures.same
     (c.as_mut_slice.ensures.value ∙ c.passes.invariant.held) c.as_mut_slice.ensures.len))
     (blocks_from case _ c.args.self.now c.as_mut_slice.result.now is
     (c.in_ok-sweep.ensures.done case (g.T.Theory.lines c.args.theory.now) counts

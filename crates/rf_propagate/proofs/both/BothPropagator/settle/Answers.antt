@@ -28,7 +28,8 @@ pub returns-then-left-before-clause-quiet : goal.returns-then-left-before-clause
 returns-then-left-before-clause-quiet g c = λ asked.
     let kept : Kept (g.T.Theory.case c.args.theory.now) (g.T.Theory.lines c.args.theory.now) c.settle.new.trail c.settle-in-rounds.new.trail
     = record { counts = c.settle-in-rounds.ensures.counts; sound = c.settle-in-rounds.ensures.sound } in
-    let as_many : total c.settle-in-rounds.new.trail ≡ total c.settle.new.trail = counted_same c.settle-in-rounds.new.trail c.settle.new.trail _ _ c.left.ensures c.left-before.ensures c.if-left-before.true in
+    let as_many : total c.settle-in-rounds.new.trail ≡ total c.settle.new.trail =
+    counted_same c.settle-in-rounds.new.trail c.settle.new.trail _ _ c.left.ensures c.left-before.ensures c.if-left-before.true in
     let first = c.in_ok-carrier.ensures.quiet (ap (λ o. Ok o) c.in_default.is) in
     let second = c.in_ok-carrier-2.ensures.quiet (ap (λ o. Ok o) c.in_default-2.is) in
     quiet_both _ _ _ _ _ _ (quiet_kept _ _ kept as_many first) second

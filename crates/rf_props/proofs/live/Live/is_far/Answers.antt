@@ -18,7 +18,8 @@ returns-in-Some c = λ beyond f small inside.
     (far_next m c.cell-from.result c.in-Some.cell c.cell.result c.frequency_at.result c.frequency_at-in-Some.result f
     (subst (λ (x : Marks). c.cell-from.result ≡ cell_of x c.frequency_at.result) (sym c.self.view_is) c.cell-from.ensures)
     (subst (λ (x : Marks). c.cell.result ≡ cell_of x c.frequency_at-in-Some.result) (sym c.self.view_is) c.cell.ensures)
-    c.in-Some.ensures (ltb-true _ _ beyond) (c.frequency_at.ensures.below f small (at_lo c.args.lo _ f (to_z-of_z w64 c.args.lo c.ranges.lo) inside.0)) (c.frequency_at-in-Some.ensures.above f small (at_hi c.args.hi _ f (to_z-of_z w64 c.args.hi c.ranges.hi) inside.1)))
+    c.in-Some.ensures (ltb-true _ _ beyond) (c.frequency_at.ensures.below f small (at_lo c.args.lo _ f (to_z-of_z w64 c.args.lo c.ranges.lo) inside.0))
+    (c.frequency_at-in-Some.ensures.above f small (at_hi c.args.hi _ f (to_z-of_z w64 c.args.hi c.ranges.hi) inside.1)))
 
 pub returns-in-None : goal.returns-in-None
 returns-in-None c = λ _ f small inside.

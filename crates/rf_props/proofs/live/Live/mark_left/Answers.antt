@@ -10,7 +10,15 @@ use Rattle.rf_props.proofs.live.Live.mark_left.Goals.{In-Some}
 pub next-requires : goal.next-requires
 next-requires c =
     let sets = c.domains-domains.result.now in
-    omega (arith, ap length c.domains-domains.ensures.sizes, length-map sets length, ap length c.requires.counts, counts_length (case_of c.args.problem.now), count_is c.args.problem.now, c.requires.carrier)
+    omega (
+      arith,
+      ap length c.domains-domains.ensures.sizes,
+      length-map sets length,
+      ap length c.requires.counts,
+      counts_length (case_of c.args.problem.now),
+      count_is c.args.problem.now,
+      c.requires.carrier,
+    )
 
 are_freqs : (c : In-Some) → AreFreqs (case_of c.args.problem.now) c.freqs-freqs.result.now c.args.carrier
 are_freqs c = record { is = c.freqs-freqs.ensures.value; rising = c.freqs-freqs.ensures.rising; small = c.freqs-freqs.ensures.below }

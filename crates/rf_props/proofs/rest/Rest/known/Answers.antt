@@ -13,7 +13,8 @@ pub returns-then-not-is_within-clause-few : goal.returns-then-not-is_within-clau
 returns-then-not-is_within-clause-few c = none_few (left c.args.trail.now) c.no_flags-then-not-is_within.result c.no_flags-then-not-is_within.ensures
 
 pub returns-then-not-is_within-clause-done : goal.returns-then-not-is_within-clause-done
-returns-then-not-is_within-clause-done c = λ kinds _. none_done (case_of c.args.problem.now) c.args.trail.now c.no_flags-then-not-is_within.result kinds c.requires.counts c.no_flags-then-not-is_within.ensures
+returns-then-not-is_within-clause-done c = λ kinds _. none_done
+    (case_of c.args.problem.now) c.args.trail.now c.no_flags-then-not-is_within.result kinds c.requires.counts c.no_flags-then-not-is_within.ensures
 
 pub returns-clause-few : goal.returns-clause-few
 returns-clause-few c =
@@ -22,5 +23,6 @@ returns-clause-few c =
 
 pub returns-clause-done : goal.returns-clause-done
 returns-clause-done c = λ kinds rests.
-    known_done (case_of c.args.problem.now) c.args.trail.now c.domains.result.now c.in-Some.rest c.singles_of.result kinds c.requires.counts c.domains.ensures.has (c.requires.sized.each c.in-Some.rest c.in-Some.is)
+    known_done (case_of c.args.problem.now) c.args.trail.now c.domains.result.now c.in-Some.rest c.singles_of.result kinds c.requires.counts c.domains.ensures.has
+    (c.requires.sized.each c.in-Some.rest c.in-Some.is)
     (c.is_within.ensures.0 c.if-not-is_within.false) c.singles_of.ensures (rests.done c.in-Some.rest c.in-Some.is)

@@ -13,7 +13,8 @@ rounds-init c = (stays (case_of c.args.problem.now) c.args.trail.now, (c.require
 
 pub sweep_round-requires-clause-few : goal.sweep_round-requires-clause-few
 sweep_round-requires-clause-few c =
-    few_left (case_of c.args.problem.now) c.rounds.trail c.singles_of-single.result (c.rounds.invariant.0.counts ∙ c.requires.counts) (singles_left (case_of c.args.problem.now) c.rounds.trail c.domains.result.now c.singles_of-single.result c.domains.ensures.has c.singles_of-single.ensures)
+    few_left (case_of c.args.problem.now) c.rounds.trail c.singles_of-single.result (c.rounds.invariant.0.counts ∙ c.requires.counts)
+    (singles_left (case_of c.args.problem.now) c.rounds.trail c.domains.result.now c.singles_of-single.result c.domains.ensures.has c.singles_of-single.ensures)
 
 pub returns-in_err-sweep_round-clause-sound : goal.returns-in_err-sweep_round-clause-sound
 returns-in_err-sweep_round-clause-sound c = λ lines. grows_on (c.rounds.invariant.0.sound lines) (c.sweep_round.ensures.sound lines)
@@ -28,7 +29,8 @@ all_done : (c : Joined-self) → AreAllDone (case_of c.args.problem.now) (left c
 all_done c =
     let case = case_of c.args.problem.now in
     let round : GoesOn case c.rounds.trail c.sweep_round.new.trail = record { counts = c.sweep_round.ensures.counts; sound = c.sweep_round.ensures.sound } in
-    quiet_round case c.args.kinds.now c.singles_of-single.result c.rounds.trail c.sweep_round.new.trail c.count_fixed.result c.count_fixed-before.result round (c.rounds.invariant.0.counts ∙ c.requires.counts)
+    quiet_round case c.args.kinds.now c.singles_of-single.result c.rounds.trail c.sweep_round.new.trail c.count_fixed.result c.count_fixed-before.result round
+    (c.rounds.invariant.0.counts ∙ c.requires.counts)
     (singles_left (case_of c.args.problem.now) c.rounds.trail c.domains.result.now c.singles_of-single.result c.domains.ensures.has c.singles_of-single.ensures) c.in_ok-sweep_round.ensures.swept c.count_fixed.ensures c.count_fixed-before.ensures c.if-count_fixed-before.true
 
 pub returns-then-count_fixed-before-clause-rests : goal.returns-then-count_fixed-before-clause-rests
@@ -55,5 +57,6 @@ pub rounds-preserved : goal.rounds-preserved
 rounds-preserved c =
     let case = case_of c.args.problem.now in
     let round : GoesOn case c.rounds.trail c.sweep_round.new.trail = record { counts = c.sweep_round.ensures.counts; sound = c.sweep_round.ensures.sound } in
-    let few = few_left case c.rounds.trail c.singles_of-single.result (c.rounds.invariant.0.counts ∙ c.requires.counts) (singles_left (case_of c.args.problem.now) c.rounds.trail c.domains.result.now c.singles_of-single.result c.domains.ensures.has c.singles_of-single.ensures) in
+    let few = few_left case c.rounds.trail c.singles_of-single.result (c.rounds.invariant.0.counts ∙ c.requires.counts)
+    (singles_left (case_of c.args.problem.now) c.rounds.trail c.domains.result.now c.singles_of-single.result c.domains.ensures.has c.singles_of-single.ensures) in
     (goes_on c.rounds.invariant.0 round, (c.rounds.invariant.1.0, (few_on round few, c.in_ok-sweep_round.ensures.swept)))

@@ -29,7 +29,8 @@ pub loop-carrier-preserved-then-is_among : goal.loop-carrier-preserved-then-is_a
 loop-carrier-preserved-then-is_among t c =
     let s = c.args.self.now in
     let counts = c.loop-carrier.invariant.0.on.counts ∙ c.requires.counts in
-    let swept = twice_swept (case_of s.problem.now) c.loop-carrier.trail s.single.now s.kind s.place (take c.args.depth c.args.others) c.loop-carrier.carrier counts (sym c.is_among.ensures ∙ c.if-is_among.true) in
+    let swept = twice_swept (case_of s.problem.now) c.loop-carrier.trail s.single.now s.kind s.place (take c.args.depth c.args.others) c.loop-carrier.carrier counts
+    (sym c.is_among.ensures ∙ c.if-is_among.true) in
     (sweeping_past c.loop-carrier.invariant.0 counts (few_on c.loop-carrier.invariant.0.on c.requires.ready.few) swept, c.loop-carrier.invariant.1)
 
 pub extend-requires : goal.extend-requires
@@ -82,7 +83,8 @@ pub returns-clause-swept : goal.returns-clause-swept
 returns-clause-swept t c =
     let s = c.args.self.now in
     let four : length c.args.others ≡ 4 = omega arith in
-    let size : length (take c.args.depth c.args.others) ≡ c.args.depth = length-take-le c.args.depth c.args.others (omega (arith, four, c.requires.depth, c.roles.ensures.value, c.roles.ensures.bounds.1)) in
+    let size : length (take c.args.depth c.args.others) ≡ c.args.depth =
+    length-take-le c.args.depth c.args.others (omega (arith, four, c.requires.depth, c.roles.ensures.value, c.roles.ensures.bounds.1)) in
     each_swept (case_of s.problem.now) c.loop-carrier.trail s.single.now s.kind s.place (take c.args.depth c.args.others) (c.loop-carrier.invariant.0.on.counts ∙ c.requires.counts)
     (λ whole. absurd (omega (arith, size, whole, c.roles.ensures.value)))
     (λ r there. c.loop-carrier.invariant.0.swept r (omega (arith, there, count_is s.problem.now, c.carriers-count.ensures.counted, c.loop-carrier-test.false)))

@@ -38,7 +38,8 @@ returns-then-is_far-clause-swept c =
     let hi_fits : FitsSigned w64 hi = search rules in
     far_swept (case_of s.problem.now) c.args.trail.now s.single.now s.kind s.place c.reach_of.result c.args.others.now _ lo hi c.requires.counts c.requires.others c.in-Some.ensures.fixed c.reach_of.ensures
     c.in-Some-window.ensures.1
-    (within_at (to_z-of_z w64 lo lo_fits) (to_z-of_z w64 hi hi_fits) (far_within (case_of s.problem.now) (left c.args.trail.now) c.args.live.now _ _ c.requires.live (c.is_far.ensures c.if-is_far.true)))
+    (within_at (to_z-of_z w64 lo lo_fits) (to_z-of_z w64 hi hi_fits)
+    (far_within (case_of s.problem.now) (left c.args.trail.now) c.args.live.now _ _ c.requires.live (c.is_far.ensures c.if-is_far.true)))
 
 pub returns-then-branch-clause-live : goal.returns-then-branch-clause-live
 returns-then-branch-clause-live c =
