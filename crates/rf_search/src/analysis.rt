@@ -3,8 +3,8 @@
 
 ghost use Rattle.std.specs.Prelude.{◌≡◌, ◌≤◌, ◌<◌, length};
 
-use crate::cover::{cover, is_kept, need};
 use crate::level::Level;
+use crate::needed::Needed;
 use crate::search::Search;
 use bumpalo::Bump;
 use bumpalo::collections::into_bump_slice;
@@ -22,15 +22,14 @@ pub struct Candidate<'a> {
     pub carriers: &'a [usize],
 }
 
-// Keeps what gives the hint of entry `n` its effect: the removals from the carriers that it looks at.
+// Needs what gives the hint of entry `n` its effect: the removals from the carriers that it looks at.
 fn need_for<T: Applies>(
     theory: &T,
     trail: &Trail,
-    kept: &mut [bool],
-    done: &mut [bool],
+    needed: &mut Needed<'_>,
     hint: Hint,
     n: usize,
-) {
+) -> Result<(), AllocError> {
     match hint {
         Hint::Ban { .. } => {}
         Hint::Rule {
@@ -41,25 +40,25 @@ fn need_for<T: Applies>(
         } => {
             for i in 0..roles_of(kind) {
                 if i != target as usize {
-                    need(trail, kept, done, roles[i] as usize, n);
+                    needed.need(roles[i] as usize, n)?;
                 }
             }
         }
-        Hint::Earlier { line } => need_line(theory, trail, kept, done, line, n),
+        Hint::Earlier { line } => need_line(theory, trail, needed, line, n)?,
     }
+    Ok(())
 }
 
-// Keeps what makes the conditions of a line hold; the one on the entry's own carrier alone where the line takes out all of it.
+// Needs what makes the conditions of a line hold; the one on the entry's own carrier alone where the line takes out all of it.
 fn need_line<T: Applies>(
     theory: &T,
     trail: &Trail,
-    kept: &mut [bool],
-    done: &mut [bool],
+    needed: &mut Needed<'_>,
     line: u32,
     n: usize,
-) {
+) -> Result<(), AllocError> {
     let Some(conds) = theory.line(line) else {
-        return;
+        return Ok(());
     };
     let entry = entry_at(trail, n);
     let takes_all = match entry {
@@ -69,9 +68,10 @@ fn need_line<T: Applies>(
     for cond in conds {
         let carrier = cond.carrier as usize;
         if takes_all || !is_on(entry, carrier) {
-            need(trail, kept, done, carrier, n);
+            needed.need(carrier, n)?;
         }
     }
+    Ok(())
 }
 
 fn entry_at(trail: &Trail, n: usize) -> Option<Entry> {
@@ -129,15 +129,8 @@ pub fn analyse<'a, T: Applies>(
     carrier: usize,
 ) -> Result<Candidate<'a>, AllocError> {
     let trail = &search.trail;
-    let mut kept = Vec::new(bump);
-    for _ in 0..trail.len() {
-        kept.push(false)?;
-    }
-    let mut done = Vec::new(bump);
-    for _ in 0..trail.domains().carriers() {
-        done.push(false)?;
-    }
-    cover(trail, kept.as_mut_slice(), carrier, trail.len());
+    let mut needed = Needed::new(bump, trail)?;
+    needed.cover(carrier, trail.len())?;
     let mut conds = Vec::new(bump);
     let mut hints = Vec::new(bump);
     let mut carriers = Vec::new(bump);
@@ -145,21 +138,14 @@ pub fn analyse<'a, T: Applies>(
     let entries = trail.len();
     for back in 0..entries {
         let n = entries - 1 - back;
-        if !is_kept(kept.as_slice(), n) {
+        if !needed.has(n) {
             continue;
         }
         level = level_at(search.levels.as_slice(), level, n);
         if let Some(hint) = reason(theory, search, level, n) {
             hints.push(hint)?;
             carriers.push(trail.entry(n).carrier)?;
-            need_for(
-                theory,
-                trail,
-                kept.as_mut_slice(),
-                done.as_mut_slice(),
-                hint,
-                n,
-            );
+            need_for(theory, trail, &mut needed, hint, n)?;
             continue;
         }
         if level > 0 {
