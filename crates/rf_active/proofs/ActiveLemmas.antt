@@ -1,9 +1,8 @@
 -- The problem of a show has the case of the show.
-use Rattle.std.proofs.Common.{◌≡◌, ℕ, zero, suc, ◌+◌, ◌<◌, ◌≤◌, Bool, true, false, ◌&&◌, ◌||◌, List, [], ◌∷◌, ◌++◌, length, map, filter, cond, get_or, length-append, refl, ap, sym, ◌∙◌, arith, inl}
-use Rattle.std.proofs.Common.{inr}
-use Rattle.std.specs.Prelude.{◌==◌, nat_le, nat_lt, Result, Ok, Err, OnOk}
+use Rattle.std.proofs.Common.{◌≡◌, ℕ, zero, suc, ◌+◌, ◌<◌, ◌≤◌, Bool, true, false, ◌&&◌, ◌||◌, List, [], ◌∷◌, ◌++◌, length, map, filter, cond, get_or, length-append, refl, ap, sym, ◌∙◌}
+use Rattle.std.proofs.Common.{arith, inl, inr, ◌==◌, nat_le, nat_lt, Result, Ok, Err, OnOk, lt-ltb, ltb-true}
 use Rattle.std.specs.List.{list_all, list_any, range_with_len}
-use Rattle.std.proofs.lemmas.Bool.{and_parts, cases_Bool, cases_lt, lt-ltb, ltb-true}
+use Rattle.std.proofs.lemmas.Bool.{and_parts, cases_Bool, cases_lt, and_from}
 use Rattle.std.proofs.lemmas.Bool.Decides.{nat_tests}
 use Rattle.std.proofs.Math.Seq.{get_or-append_seam}
 use Rattle.std.proofs.lemmas.List.{get_or_append_left}
@@ -19,10 +18,7 @@ use Rattle.rf_show.specs.Query.{all_meet, are_joined, is_together, meet_at}
 use Rattle.rf_show.specs.Case.{case_carrier, case_of}
 use Rattle.rf_show.specs.Company.{MeetingIsMutual}
 use Rattle.rf_active.specs.Active.{HasFirst, IsAdded, IsOf, Meets, carrier_with}
-
-and_true : (a b : Bool) → a ≡ true → b ≡ true → (a && b) ≡ true
-and_true true b h k = k
-and_true false b h k = h
+use mathlib.Core.Bool.{and_comm}
 
 -- ---- no carrier yet, and one more
 
@@ -102,7 +98,7 @@ with_first : (n x : ℕ) (sets : List (List ℕ)) → nat_lt x n ≡ true → li
 with_first n x [] low all = refl
 with_first n x (s ∷ ss) low all =
     let parts = and_parts (are_below n s) _ all in
-    and_true _ _ (and_true _ _ low parts.0) (with_first n x ss low parts.1)
+    and_from _ _ (and_from _ _ low parts.0) (with_first n x ss low parts.1)
 
 sublists_below : (n most : ℕ) (xs : List ℕ) → are_below n xs ≡ true → list_all (are_below n) (sublists most xs) ≡ true
 unfolding sublists
@@ -110,13 +106,13 @@ sublists_below n zero xs low = refl
 sublists_below n (suc most) [] low = refl
 sublists_below n (suc most) (x ∷ xs) low =
     let parts = and_parts (nat_lt x n) _ low in
-    and_true _ _ (and_true _ _ parts.0 refl)
+    and_from _ _ (and_from _ _ parts.0 refl)
     (list_all-append (are_below n) (map (λ set. x ∷ set) (sublists most xs)) (sublists (suc most) xs)
-    ∙ and_true _ _ (with_first n x (sublists most xs) parts.0 (sublists_below n most xs parts.1)) (sublists_below n (suc most) xs parts.1))
+    ∙ and_from _ _ (with_first n x (sublists most xs) parts.0 (sublists_below n most xs parts.1)) (sublists_below n (suc most) xs parts.1))
 
 range_below : (n a k : ℕ) → a + k ≤ n → are_below n (range_with_len a k) ≡ true
 range_below n a zero h = refl
-range_below n a (suc k) h = and_true _ _ (lt-ltb a n (omega (arith, h))) (range_below n (a + 1) k (omega (arith, h)))
+range_below n a (suc k) h = and_from _ _ (lt-ltb a n (omega (arith, h))) (range_below n (a + 1) k (omega (arith, h)))
 
 meet_same : MeetingIsMutual → (show : ShowData) (p : ProblemData) → HasFirst show (length show.carriers) p → (size a b : ℕ) → a < length show.carriers → b < length show.carriers
     → problem.meet size p.carriers a b ≡ meet_at size show.zones show.carriers a b
@@ -149,19 +145,13 @@ all_meet_same ways show p has size set low =
     (λ a la. all_same (λ b. problem.meet size p.carriers a b) (λ b. meet_at size show.zones show.carriers a b) (λ c. nat_lt c (length show.carriers)) set low
     (λ b lb. meet_same ways show p has size a b (ltb-true _ _ la) (ltb-true _ _ lb)))
 
-and_either : (a b : Bool) → (a && b) ≡ (b && a)
-and_either true true = refl
-and_either true false = refl
-and_either false true = refl
-and_either false false = refl
-
 joined_same : MeetingIsMutual → (show : ShowData) (p : ProblemData) → HasFirst show (length show.carriers) p → (set : List ℕ) → are_below (length show.carriers) set ≡ true
     → problem.are_joined p set ≡ is_together show set
 unfolding are_joined
 joined_same ways show p has set low =
     ap (λ b. b && problem.all_meet (length set) p.carriers set) (has.slices set)
     ∙ ap (λ b. share_minute (map (λ (c : Carrier). c.times) show.carriers) set && b) (all_meet_same ways show p has (length set) set low)
-    ∙ and_either (share_minute (map (λ (c : Carrier). c.times) show.carriers) set) (all_meet (length set) show.zones show.carriers set)
+    ∙ and_comm (share_minute (map (λ (c : Carrier). c.times) show.carriers) set) (all_meet (length set) show.zones show.carriers set)
 
 together_same : MeetingIsMutual → (show : ShowData) (p : ProblemData) → HasFirst show (length show.carriers) p
     → sets_that (problem.are_joined p) (length p.carriers) ≡ sets_that (is_together show) (length show.carriers)

@@ -1,2 +1,2 @@
-pub mod ListLemmas
-pub mod ActiveLemmas
+mod ActiveLemmas
+mod ListLemmas

@@ -1,7 +1,5 @@
 -- An audit finds one thing, and finds a log of a search under way honest.
-use Rattle.std.proofs.Common.{◌≡◌, ◌∙◌, ℕ, ◌+◌, List, [], ◌∷◌, ◌++◌, ◌⊎◌, inl, inr, sym, ap, false, length, Some, None}
-use Rattle.std.proofs.lemmas.List.{append_assoc, append-nil}
-use Rattle.std.specs.Prelude.{Option}
+use Rattle.std.proofs.Common.{◌≡◌, ◌∙◌, ◌+◌, List, [], ◌∷◌, ◌++◌, ◌⊎◌, inl, inr, sym, ap, false, length, Some, None, true≢false, append_assoc, append-nil, Option}
 use Rattle.std.specs.List.{count_by}
 use Rattle.rf_log.specs.declared.line.LogLine.{LogLine}
 use Rattle.rf_log.specs.declared.verdict.Cause.{Cause}
@@ -29,10 +27,7 @@ walk_by case lines tree line rest o = elim o as (λ _. Verdict) [
   | Some reason ↦ verdict.Refused (length lines + 1) reason
 ]
 
-refused_not : (n : ℕ) (reason : Cause) → is_refused (verdict.Refused n reason) ≡ false → ⊥
-refused_not n reason e = cc
-
-honest-found : (case : Case) (lines : List LogLine) (tree : Tree) (rest : List LogLine) (found : Audit)
+pub honest-found : (case : Case) (lines : List LogLine) (tree : Tree) (rest : List LogLine) (found : Audit)
     → is_refused (walk case lines tree rest) ≡ false → IsHonestFrom case tree rest → Finds case lines tree rest found
     → found ≡ Honest (count_by is_branch (lines ++ rest))
 honest-found case lines tree [] found valid honest finds = finds ∙ ap (λ (xs : List LogLine). Honest (count_by is_branch xs)) (sym (append-nil lines))
@@ -40,7 +35,7 @@ honest-found case lines tree (line ∷ rest) found valid honest finds =
     let P : Option Cause → Type 0 =
     λ o. is_refused (walk_by case lines tree line rest o) ≡ false → FindsBy case lines tree line rest found o → found ≡ Honest (count_by is_branch (lines ++ (line ∷ rest))) in
     let all : (o : Option Cause) → P o = λ o. elim o as P [
-      | Some reason ↦ λ v f. absurd (refused_not (length lines + 1) reason v)
+      | Some reason ↦ λ v f. absurd (true≢false v)
       | None ↦ λ v f. elim f [
         | inl on ↦ honest-found case (lines ++ line ∷ []) (tree_after tree line) rest found v honest.1 on.1
             ∙ ap (λ (xs : List LogLine). Honest (count_by is_branch xs)) (append_assoc lines (line ∷ []) rest)
@@ -48,11 +43,6 @@ honest-found case lines tree (line ∷ rest) found valid honest finds =
       ]
     ] in
     all (cause_of case lines tree line) valid finds
-
-pub started-honest : (case : Case) (log : List LogLine) (found : Audit)
-    → is_refused (walk case [] (Some []) log) ≡ false → IsHonestFrom case (Some []) log → Finds case [] (Some []) log found
-    → found ≡ Honest (count_by is_branch log)
-started-honest case log found valid honest finds = honest-found case [] (Some []) log found valid honest finds
 
 pub finds-one : (case : Case) (lines : List LogLine) (tree : Tree) (rest : List LogLine) (one other : Audit)
     → Finds case lines tree rest one → Finds case lines tree rest other → one ≡ other

@@ -1,11 +1,12 @@
 mod AuditLaws
 mod Covers
+mod FollowLemmas
 mod Forms
-mod Struck
+mod Free
+mod Led
 mod Settles
+mod Sets
 mod Sides
 mod Spreads
-mod Free
 mod Starts
-mod Led
-mod FollowLemmas
+mod Struck

@@ -1,10 +1,11 @@
 -- What a decision leaves, and when it is honest.
-use Rattle.std.proofs.Common.{◌≡◌, ◌∙◌, ◌<◌, ◌≤◌, ◌+◌, ℕ, zero, suc, List, [], ◌∷◌, length, get_or, set, Bool, true, false, not, ◌&&◌, sym, ap, subst, arith, inl, inr}
-use Rattle.std.specs.Prelude.{Option, nat_le, slice_index_or, if◌then◌else◌}
-use Rattle.std.proofs.lemmas.Bool.{cases_eq, cases_lt, and_parts, and_from, leb-true, le-leb, true≢false, false_from_ne_true}
-use Rattle.std.proofs.lemmas.List.{get_or-set_same, get_or-set_other, length-set, get_or_past}
+use Rattle.std.proofs.Common.{◌≡◌, ◌∙◌, ◌<◌, ◌≤◌, ◌+◌, ℕ, zero, suc, List, [], ◌∷◌, length, get_or, Bool, true, false, not, sym, ap, subst, arith}
+use Rattle.std.specs.Prelude.{Option, slice_index_or, if◌then◌else◌}
+use Rattle.std.proofs.lemmas.Bool.{and_from, le-leb, true≢false}
+use Rattle.std.proofs.lemmas.Bool.Decides.{nat_tests}
+use Rattle.std.proofs.lemmas.List.{get_or_past}
 use Rattle.rf_log.specs.declared.cond.Cond.{Cond}
-use Rattle.rf_log.specs.Case.{Case, count_of}
+use Rattle.rf_log.specs.Case.{Case}
 use Rattle.rf_log.specs.Box.{Box, between, is_met}
 use Rattle.rf_log.specs.Relations.{Meets}
 use Rattle.rf_log.specs.Solved.{IsHonest}
@@ -40,38 +41,6 @@ narrow-left case path cond fixed old new sized fewer kept left = record {
         subst (λ (x : Cond). is_met x k ≡ true) is ((fewer c k here).1 (sym of ∙ ap (λ (x : Cond). x.carrier) (sym is)))
     met-one c k here before (suc i) one has_one of = before.met one (i, (let low = has_one.0 in omega (arith, low)), has_one.1) of
 
-pub narrow-fewer : (old : List (List Bool)) (cond : Cond) (marks : List Bool) → cond.carrier < length old
-    → ((k : ℕ) → has marks k ≡ (has (get_or old cond.carrier []) k && is_met cond k))
-    → (c k : ℕ) → in_sets (set old cond.carrier marks) c k ≡ true → (in_sets old c k ≡ true) × (c ≡ cond.carrier → is_met cond k ≡ true)
-narrow-fewer old cond marks low cut c k here = elim (cases_eq c cond.carrier) [
-  | inl same ↦
-      let here_c : has marks k ≡ true =
-      ap (λ (m : List Bool). has m k) (sym (get_or-set_same old cond.carrier marks [] low)) ∙ subst (λ (x : ℕ). in_sets (set old cond.carrier marks) x k ≡ true) same here in
-      let parts = and_parts _ (is_met cond k) (sym (cut k) ∙ here_c) in
-      (subst (λ (x : ℕ). in_sets old x k ≡ true) (sym same) parts.0, λ _. parts.1)
-  | inr other ↦ (ap (λ (m : List Bool). has m k) (sym (get_or-set_other old cond.carrier c marks [] other)) ∙ here, λ same. absurd (other same))
-]
-
-pub narrow-kept : (old : List (List Bool)) (cond : Cond) (marks : List Bool) → cond.carrier < length old
-    → ((k : ℕ) → has marks k ≡ (has (get_or old cond.carrier []) k && is_met cond k))
-    → (c k : ℕ) → in_sets old c k ≡ true → (c ≡ cond.carrier → is_met cond k ≡ true) → in_sets (set old cond.carrier marks) c k ≡ true
-narrow-kept old cond marks low cut c k here met = elim (cases_eq c cond.carrier) [
-  | inl same ↦
-      let here_c : has (get_or old cond.carrier []) k ≡ true = subst (λ (x : ℕ). in_sets old x k ≡ true) same here in
-      subst (λ (x : ℕ). in_sets (set old cond.carrier marks) x k ≡ true) (sym same)
-      (ap (λ (m : List Bool). has m k) (get_or-set_same old cond.carrier marks [] low) ∙ (cut k ∙ and_from _ _ here_c (met same)))
-  | inr other ↦ ap (λ (m : List Bool). has m k) (get_or-set_other old cond.carrier c marks [] other) ∙ here
-]
-
-pub narrow-sized : (case : Case) (old : List (List Bool)) (c : ℕ) (marks : List Bool) → AreSized case old → c < length old → length marks ≡ length (get_or old c []) → AreSized case (set old c marks)
-narrow-sized case old c marks sized low same_long = record {
-  full = length-set old c marks ∙ sized.full;
-  sizes = λ d. elim (cases_eq d c) [
-    | inl same ↦ subst (λ (x : ℕ). length (get_or (set old c marks) x []) ≡ count_of case x) (sym same) (ap length (get_or-set_same old c marks [] low) ∙ same_long ∙ sized.sizes c)
-    | inr other ↦ ap length (get_or-set_other old c d marks [] other) ∙ sized.sizes d
-  ];
-}
-
 -- a condition on no carrier
 pub past-left : (case : Case) (path : List Cond) (cond : Cond) (fixed : List (Option ℕ)) (sets : List (List Bool)) → length sets ≤ cond.carrier
     → IsLeft case path fixed sets → IsLeft case (cond ∷ path) fixed sets
@@ -89,33 +58,18 @@ module _ (sets : List (List Bool)) (side : Cond) (marks : List Bool) (at : marks
   pub no-left : HasNoneIn marks side.lo (side.hi + 1) → HasBoth (in_sets sets) side → ⊥
   no-left none both =
       let k = both.left.0 in
-      let parts = and_parts (nat_le side.lo k) (nat_le k side.hi) (sym (met k) ∙ both.left.2) in
-      let to : k ≤ side.hi = leb-true k side.hi parts.1 in
-      true≢false (sym both.left.1 ∙ (here-at k ∙ none k (leb-true side.lo k parts.0) (omega (arith, to))))
+      let to : between side.lo side.hi k ≡ true = sym (met k) ∙ both.left.2 in
+      true≢false (sym both.left.1 ∙ (here-at k ∙ none k (grind (arith, nat_tests, to)) (grind (arith, nat_tests, to))))
 
   pub tells-sides : (k : ℕ) (b : Bool) → IsFirstIn marks side.lo (side.hi + 1) k → Tells (HasOutside marks side.lo (side.hi + 1)) b → Tells (HasBoth (in_sets sets) side) b
   tells-sides k true first outside = record {
     left = (k, here-at k ∙ first.here, met k ∙ and_from _ _ (le-leb side.lo k first.above) (le-leb k side.hi (let b = first.below in omega (arith, b))));
-    right = (
-      outside.at,
-      here-at outside.at ∙ outside.here,
-      met outside.at ∙ false_from_ne_true _ (λ within. let parts = and_parts (nat_le side.lo outside.at) (nat_le outside.at side.hi) within in
-          elim outside.out [
-            | inl below ↦ let h = leb-true side.lo outside.at parts.0 in absurd (omega (arith, below, h))
-            | inr past ↦ let h = leb-true outside.at side.hi parts.1 in absurd (omega (arith, past, h))
-          ]),
-    );
+    right = (outside.at, here-at outside.at ∙ outside.here, met outside.at ∙ (let out = outside.out in grind (arith, nat_tests, out)));
   }
   tells-sides k false first none = λ both.
       let j = both.right.0 in
-      let here : has marks j ≡ true = sym (here-at j) ∙ both.right.1 in
-      elim (cases_lt j side.lo) [
-        | inl below ↦ none (record { at = j; here = here; out = inl below })
-        | inr above ↦ elim (cases_lt side.hi j) [
-          | inl past ↦ none (record { at = j; here = here; out = inr (omega (arith, past)) })
-          | inr to ↦ true≢false (sym (met j ∙ and_from _ _ (le-leb side.lo j above) (le-leb j side.hi to)) ∙ both.right.2)
-        ]
-      ]
+      let past : between side.lo side.hi j ≡ false = sym (met j) ∙ both.right.2 in
+      none (record { at = j; here = sym (here-at j) ∙ both.right.1; out = grind (arith, nat_tests, past) })
 
 -- what the sets tell of a decision
 pub tells-honest : (case : Case) (path : List Cond) (box : Box) (side : Cond) (b : Bool) → IsClosedTo case path box true → Covers case path box

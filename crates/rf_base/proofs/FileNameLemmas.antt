@@ -4,7 +4,7 @@ use Rattle.std.proofs.lemmas.Bool.Decides.{nat_tests}
 use Rattle.std.specs.List.{list_all}
 use Rattle.std.specs.Str.{IsUtf8}
 use Rattle.rf_base.specs.FileName.{is_visible}
-use Rattle.rf_base.proofs.TextLemmas.{text_of_low}
+use Rattle.rf_base.proofs.TextLaws.{text_of_low}
 
 visible_low : (b : ℕ) → IsTrue (is_visible b) → b < 128
 visible_low b v = grind (arith, nat_tests)

@@ -1,10 +1,15 @@
-pub mod Bytes
-pub mod DecimalLemmas
-pub mod FileNameLemmas
+pub mod BoolLaws
+pub mod ByteLaws
+pub mod DecimalLaws
 pub mod InputLaws
-pub mod NameLemmas
-pub mod PaddedLemmas
-pub mod Reading
+pub mod ListLaws
+pub mod NameLaws
+pub mod NumberLaws
+pub mod OptionLaws
 pub mod ScriptLaws
-pub mod TextLemmas
-pub mod Told
+pub mod TextLaws
+pub mod ToldLaws
+pub mod WordLaws
+mod FileNameLemmas
+mod PaddedLemmas
+mod Reading

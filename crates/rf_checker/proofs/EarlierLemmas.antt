@@ -1,11 +1,10 @@
 -- An earlier nogood line among the lines, and what it takes out of a box.
-use Rattle.std.proofs.Common.{◌≡◌, ℕ, zero, suc, ◌-◌, ◌<◌, ◌≤◌, List, [], ◌∷◌, ◌++◌, length, Bool, true, false, not, ◌&&◌, refl, sym, ◌∙◌, ap, subst, arith, inl, inr, take, drop, get_or, set}
-use Rattle.std.proofs.Common.{drop-cons, get_or-set_same, get_or-set_other}
-use Rattle.std.specs.Prelude.{Option, Some, None, is_some, if◌then◌else◌, slice_index_or}
+use Rattle.std.proofs.Common.{◌≡◌, ℕ, zero, suc, ◌-◌, ◌<◌, ◌≤◌, List, [], ◌∷◌, ◌++◌, length, Bool, true, false, not, ◌&&◌, refl, sym, ◌∙◌, ap, subst, arith, inl, inr, take, drop, get_or}
+use Rattle.std.proofs.Common.{set, drop-cons, get_or-set_same, get_or-set_other, Option, Some, None, is_some, if◌then◌else◌, slice_index_or, eq-eqb, ne_eqb, true≢false, take-append-drop}
 use Rattle.std.specs.Option.{option_to_list}
 use Rattle.std.specs.List.{filter}
-use Rattle.std.proofs.lemmas.Bool.{cases_Bool, cases_eq, eq-eqb, ne_eqb, true≢false}
-use Rattle.std.proofs.lemmas.List.{get_or_default, take-append-drop}
+use Rattle.std.proofs.lemmas.Bool.{cases_Bool, cases_eq}
+use Rattle.std.proofs.lemmas.List.{get_or_default}
 use Rattle.std.proofs.lemmas.List.Elements.{filter-append}
 use mathlib.Core.Path.{fun_ext}
 use Rattle.rf_exclusions.specs.declared.span.Span.{Span}
@@ -19,10 +18,7 @@ use Rattle.rf_log.specs.Box.{Box, is_met, between, holds_throughout, without, no
 use Rattle.rf_log.specs.Hints.{conds_in, nogood_at, left_open}
 use Rattle.rf_checker.specs.Boxes.{box_in, IsBelow, IsBoxFor}
 use Rattle.rf_checker.specs.Lines.{single}
-
-not_twice : (b : Bool) → not (not b) ≡ b
-not_twice true = refl
-not_twice false = refl
+use mathlib.Core.Bool.{not-not}
 
 and_true : (b : Bool) → b ≡ (b && true)
 and_true true = refl
@@ -68,7 +64,7 @@ flipped cond = record cond { inside = not cond.inside }
 flipped_met : (cond : Cond) (k : ℕ) → is_met (flipped cond) k ≡ not (is_met cond k)
 flipped_met cond k = elim (cases_Bool cond.inside) [
   | inl inside ↦ rw inside refl
-  | inr outside ↦ rw outside (sym (not_twice (between cond.lo cond.hi k)))
+  | inr outside ↦ rw outside (sym (not-not (between cond.lo cond.hi k)))
 ]
 
 pub met_gone : (sets : List (List Span)) (cond : Cond) (new d : List Span) → cond.carrier < length sets

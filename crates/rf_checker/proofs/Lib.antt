@@ -1,7 +1,7 @@
-pub mod TestLemmas
-pub mod BoxLemmas
-pub mod EarlierLemmas
-pub mod RuleLemmas
-pub mod WalkLemmas
-pub mod CheckLemmas
-pub mod CarrierLemmas
+pub mod CheckLaws
+mod BoxLemmas
+mod CarrierLemmas
+mod EarlierLemmas
+mod RuleLemmas
+mod TestLemmas
+mod WalkLemmas

@@ -1,46 +1,20 @@
 -- The one index of a carrier, and what a rule hint asks.
 use Rattle.std.proofs.Common.{◌≡◌, ℕ, zero, suc, ◌<◌, ◌≤◌, ◌==◌, List, [], ◌∷◌, length, Bool, true, false, not, ◌&&◌, ◌||◌, refl, sym, ◌∙◌, ap, subst, arith, inl, inr, map, take, set}
+use Rattle.std.proofs.Common.{is_some, Option, Some, None, MatchOption, nat_lt, slice_index, slice_index_or, leb-true, true≢false, eq-eqb, le-leb, eqb-true}
 use Rattle.std.proofs.Math.Seq.{take-set-lt}
-use Rattle.std.specs.Prelude.{is_some, Option, Some, None, MatchOption, nat_lt, slice_index, slice_index_or}
 use Rattle.std.specs.List.{All, list_all}
-use Rattle.std.proofs.lemmas.Bool.{cases_Bool, cases_lt, and_parts, and_from, or_right, or_left, not-true, not_from_false, lt-ltb, leb-true, true≢false, false_from_ne_true, eq-eqb, and_right}
-use Rattle.std.proofs.lemmas.Bool.{or_parts, or_from, not_from_true, le-leb, eqb-true}
+use Rattle.std.proofs.lemmas.Bool.{cases_Bool, and_parts, and_from, or_right, or_left, not-true, not_from_false, and_right, or_parts, or_from, not_from_true}
 use Rattle.rf_exclusions.specs.declared.span.Span.{Span}
 use Rattle.rf_exclusions.specs.Spans.{has_in, IsOnly}
 use Rattle.rf_log.specs.Case.{Case, count_of, is_instance, are_distinct, are_together, is_among, is_broken, is_in_order, breaks, freq_of, freqs_at, margin_of}
-use Rattle.rf_log.specs.Box.{Box, each_below, only_below, only_index, between}
+use Rattle.rf_log.specs.Box.{Box, only_below, only_index, between}
 use Rattle.rf_terms.specs.declared.kind.Kind.{Kind}
 use Rattle.rf_terms.specs.Kinds.{roles_of}
 use Rattle.rf_log.specs.Hints.{is_ruled_out, indices_with}
-use Rattle.rf_checker.proofs.BoxLemmas.{each_fails}
-use Rattle.rf_checker.proofs.TestLemmas.{each_below-from, only_below-is, some_when}
 use Rattle.rf_checker.specs.Boxes.{box_in, IsBelow, IsBoxFor}
 use Rattle.rf_checker.specs.Ranges.{IsEach}
-
-pub only_below-from : (n : ℕ) (p : ℕ → Bool) (k : ℕ) → k < n → p k ≡ true → ((j : ℕ) → p j ≡ true → j ≡ k) → only_below n p ≡ Some k
-only_below-from zero p k low here only = absurd (omega arith)
-only_below-from (suc n) p k low here only = elim (cases_Bool (p n)) [
-  | inl at_n ↦
-      let is : n ≡ k = only n at_n in
-      let none : each_below n (λ j. not (p j)) ≡ true = each_below-from n (λ j. not (p j)) (λ j below. not_from_false (p j) (false_from_ne_true (p j) (λ e. omega (arith, only j e, is, below)))) in
-      rw (at_n, none) (ap Some is)
-  | inr not_n ↦ rw not_n (elim (cases_lt k n) [
-    | inl below ↦ only_below-from n p k below here only
-    | inr above ↦ let is : k ≡ n = omega arith in absurd (true≢false (sym here ∙ (ap p is ∙ not_n)))
-  ])
-]
-
-pub only_below-sound : (n : ℕ) (p : ℕ → Bool) (k : ℕ) → only_below n p ≡ Some k → (k < n) × (p k ≡ true)
-only_below-sound zero p k e = cc
-only_below-sound (suc n) p k e = elim (cases_Bool (p n)) [
-  | inl at_n ↦
-      let parts = some_when (each_below n (λ j. not (p j))) n k (rw at_n at e) in
-      let is : n ≡ k = parts.1 in
-      (omega arith, subst (λ (j : ℕ). p j ≡ true) is at_n)
-  | inr not_n ↦
-      let rest = only_below-sound n p k (rw not_n at e) in
-      (omega (arith, rest.0), rest.1)
-]
+use Rattle.rf_base.proofs.ListLaws.{tested_below}
+use Rattle.rf_log.proofs.BoxLaws.{each_below-from, only_below-is, each_fails, only_below-from, only_below-sound}
 
 -- what `only` of a set answers is the one index below a count, where the set is below it
 pub only_set : (n : ℕ) (set : List Span) (o : Option ℕ) → IsBelow n set → MatchOption o ((x : ℕ) → IsOnly set x → ⊥) (λ x. IsOnly set x) → o ≡ only_below n (has_in set)
@@ -58,15 +32,11 @@ pub only_is : (case : Case) (sets : List (List Span)) (c : ℕ) (o : Option ℕ)
 only_is case sets c o set is_box is only = only_set (count_of case c) (slice_index_or sets c []) o (is_box.below c)
     (subst (λ (s : List Span). MatchOption o ((x : ℕ) → IsOnly s x → ⊥) (λ x. IsOnly s x)) is only)
 
-pub known_all : (n : ℕ) (roles : List ℕ) → All (λ c. c < n) roles → list_all (λ c. nat_lt c n) roles ≡ true
-known_all n [] known = refl
-known_all n (c ∷ cs) known = and_from (nat_lt c n) _ (lt-ltb c n (known 0 c (omega arith))) (known_all n cs (λ k d low. known (suc k) d (omega arith)))
-
 pub instance_is : (case : Case) (kind : Kind) (roles : List ℕ) → length roles ≡ roles_of kind → All (λ c. c < length case.carriers) roles
     → is_instance case kind roles ≡ ((are_distinct roles && is_in_order kind roles) && are_together case roles)
 instance_is case kind roles full known =
     let front : ((length roles == roles_of kind) && list_all (λ c. nat_lt c (length case.carriers)) roles) ≡ true =
-    and_from (length roles == roles_of kind) _ (eq-eqb _ _ full) (known_all (length case.carriers) roles known) in
+    and_from (length roles == roles_of kind) _ (eq-eqb _ _ full) (tested_below (length case.carriers) roles known) in
     ap (λ (b : Bool). ((b && are_distinct roles) && is_in_order kind roles) && are_together case roles) front
 
 pub ruled_not : (case : Case) (box : Box) (kind : Kind) (roles : List ℕ) (target lo hi k : ℕ) → k < count_of case target → lo ≤ k → k ≤ hi

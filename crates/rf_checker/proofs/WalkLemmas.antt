@@ -1,5 +1,5 @@
 -- The path, and the tests of a line.
-use Rattle.std.proofs.Common.{◌≡◌, ℕ, zero, suc, ◌+◌, ◌<◌, ◌≤◌, List, [], ◌∷◌, length, Bool, true, false, refl, sym, ◌∙◌, ap, subst, arith, take, get_or, set, reverse, ◌&&◌}
+use Rattle.std.proofs.Common.{◌≡◌, ℕ, zero, suc, ◌+◌, ◌<◌, ◌≤◌, List, [], ◌∷◌, length, Bool, true, refl, sym, ◌∙◌, ap, subst, arith, take, get_or, set, reverse, ◌&&◌}
 use Rattle.std.specs.Prelude.{Some, nat_lt, if◌then◌else◌, slice_index}
 use Rattle.std.specs.List.{All, list_all}
 use Rattle.std.proofs.lemmas.Bool.{and_parts, ltb-true}
@@ -18,6 +18,8 @@ use Rattle.rf_terms.proofs.KindLaws.{four_roles}
 use Rattle.rf_log.specs.Case.{Case, count_of}
 use Rattle.rf_checker.specs.Lines.{HasTarget, HintKnown}
 use Rattle.rf_log.specs.Walk.{turned, right_side, knows_hint, knows_names}
+use Rattle.rf_base.proofs.ListLaws.{all_below}
+use mathlib.Core.Bool.{and_comm}
 
 -- what a prefix of roles has at a place is what the roles have there
 pub role_at : (n count : ℕ) (roles : List ℕ) (place : ℕ) → All (λ c. c < count) (take n roles) → place < n → n ≤ length roles → slice_index roles place < count
@@ -44,15 +46,10 @@ rule_known case hint kind roles target lo hi has known is =
     let k : HintKnown case (Rule kind roles target lo hi) = subst (λ (h : Hint). HintKnown case h) is known in
     role_at (roles_of kind) (length case.carriers) roles target k t.0 (omega (arith, t.1, four_roles kind))
 
-all_known : (n : ℕ) (roles : List ℕ) → list_all (λ c. nat_lt c n) roles ≡ true → All (λ c. c < n) roles
-all_known n [] known k d low = absurd (omega arith)
-all_known n (c ∷ cs) known zero d low = ltb-true c n (and_parts (nat_lt c n) _ known).0
-all_known n (c ∷ cs) known (suc k) d low = all_known n cs (and_parts (nat_lt c n) _ known).1 k d (omega arith)
-
 hint_known : (case : Case) (hint : Hint) → knows_hint case hint ≡ true → HintKnown case hint
 hint_known case (Earlier line) known = tt
 hint_known case (Ban carrier lo hi) known = ltb-true carrier (length case.carriers) known
-hint_known case (Rule kind roles target lo hi) known = all_known (length case.carriers) (take (roles_of kind) roles) known
+hint_known case (Rule kind roles target lo hi) known = all_below (length case.carriers) (take (roles_of kind) roles) known
 
 hints_known : (case : Case) (hints : List Hint) → list_all (knows_hint case) hints ≡ true → All (HintKnown case) hints
 hints_known case [] known k d low = absurd (omega arith)
@@ -65,17 +62,11 @@ line_known case line conds hints slice known is same =
     let k : knows_names case (Nogood conds hints) ≡ true = subst (λ (l : LogLine). knows_names case l ≡ true) is known in
     subst (λ (xs : List Hint). All (HintKnown case) xs) (sym same) (hints_known case hints (and_parts _ _ k).1)
 
-and_swap : (a b : Bool) → (a && b) ≡ (b && a)
-and_swap true true = refl
-and_swap true false = refl
-and_swap false true = refl
-and_swap false false = refl
-
 all_reversed : (p : Cond → Bool) (xs : List Cond) → list_all p (reverse xs) ≡ list_all p xs
 all_reversed p [] = refl
 all_reversed p (x ∷ xs) =
     ap (list_all p) (reverse-append (x ∷ []) xs) ∙ (list_all-append p (reverse xs) (x ∷ [])
-    ∙ (ap (λ (b : Bool). b && (p x && true)) (all_reversed p xs) ∙ (and_swap (list_all p xs) (p x && true) ∙ ap (λ (b : Bool). b && list_all p xs) (and_swap (p x) true))))
+    ∙ (ap (λ (b : Bool). b && (p x && true)) (all_reversed p xs) ∙ (and_comm (list_all p xs) (p x && true) ∙ ap (λ (b : Bool). b && list_all p xs) (and_comm (p x) true))))
 
 -- the order of the conditions of a box doesn't count
 pub box_reversed : (case : Case) (conds : List Cond) → box_of case (reverse conds) ≡ box_of case conds

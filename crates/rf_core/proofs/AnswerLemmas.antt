@@ -1,6 +1,5 @@
 -- What is answered has a text, which is what may be answered.
-use Rattle.std.proofs.Common.{◌≡◌, ℕ, zero, suc, ◌+◌, ◌<◌, Bool, true, false, List, [], ◌∷◌, length, Option, Some, None, refl, ap, subst, ◌∙◌, arith}
-use Rattle.std.specs.Prelude.{All, slice_get, slice_index, remove}
+use Rattle.std.proofs.Common.{◌≡◌, ℕ, zero, suc, ◌+◌, ◌<◌, Bool, true, false, List, [], ◌∷◌, length, Option, Some, None, refl, ap, subst, ◌∙◌, arith, All, slice_get, slice_index, remove}
 use Rattle.std.specs.Option.{option_map_or}
 use Rattle.std.proofs.lemmas.List.Elements.{All-cons, All-from_get_or, All-nil}
 use Rattle.rf_log.specs.Case.{IsPlan, is_among}
@@ -9,13 +8,14 @@ use Rattle.rf_show.specs.Case.{CaseIsAsked, case_of}
 use Rattle.rf_show.specs.Show.{ShowData}
 use Rattle.rf_show.specs.declared.carrier.Carrier.{Carrier}
 use Rattle.rf_solving.specs.Solving.{IsWritten}
-use Rattle.rf_tighter.specs.Locked.{AllLocksAreKept, MoreLocksAreTighter, locked_from, locked_to}
+use Rattle.rf_tighter.specs.Locked.{AllLocksAreKept, MoreLocksAreTighter, locked_to}
 use Rattle.rf_tighter.specs.Tighter.{IsTighter}
 use Rattle.rf_decide.specs.Texts.{IsIndexed, PlanIsIndexed}
 use Rattle.rf_core.specs.Answers.{AreCarriers, AreWritten, CanBeWritten, IsBlocked, IsDroppedWritten, text_of}
 use Rattle.rf_core.specs.Blocking.{AreLocks, Blocking, IsDropped, blocked, not_blocked, spent_reply, used_up}
 use Rattle.rf_core.specs.declared.answer.Blocked.{Blocked}
 use Rattle.rf_core.specs.declared.answer.Blocked.TheVariants.{Plan, Locks, Spent}
+use Rattle.rf_tighter.proofs.LockedLaws.{length-locked}
 
 pub may-be-answered : (show : ShowData) (n : ℕ) (answer : Blocked) (text : List ℕ) → IsBlocked show n answer → text ≡ text_of show answer → Blocking show n text
 may-be-answered show n (Plan plan) text is e = not_blocked plan is e
@@ -36,10 +36,6 @@ are-there show from [] h = All-nil (λ c. c < length show.carriers)
 are-there show from (c ∷ cs) h = All-cons (λ d. d < length show.carriers) c cs (there show.carriers c h.1) (are-there show (c + 1) cs h.2)
 
 -- ---- lines
-
-pub length-locked : (place : ℕ) (keep : ℕ → Bool) (cs : List Carrier) → length (locked_from place keep cs) ≡ length cs
-length-locked place keep [] = refl
-length-locked place keep (c ∷ cs) = ap (λ n. suc n) (length-locked (place + 1) keep cs)
 
 lines-of : (show : ShowData) (keep : ℕ → Bool) (log : List LogLine) → All (IsWritten (length (locked_to show keep).carriers)) log → AreWritten show log
 lines-of show keep log h = subst (λ n. All (IsWritten n) log) (length-locked 0 keep show.carriers) h

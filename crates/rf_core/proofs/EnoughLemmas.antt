@@ -11,7 +11,7 @@ use Rattle.rf_tighter.specs.Locked.{MoreLocksAreTighter, kept}
 use Rattle.rf_tighter.specs.Tighter.{IsTighter}
 use Rattle.rf_core.specs.Blocking.{IsStuck}
 use Rattle.rf_core.specs.Enough.{unlocked, ways_unlocked}
-use Rattle.rf_core.proofs.AnswerLemmas.{length-locked}
+use Rattle.rf_tighter.proofs.LockedLaws.{length-locked}
 
 one-less : (a b : Bool) → (a ≡ true → b ≡ true) → cond a 1 0 ≤ cond b 1 0
 one-less true b h = subst (λ x. 1 ≤ cond x 1 0) (sym (h refl)) (omega arith)

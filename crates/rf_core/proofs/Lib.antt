@@ -1,6 +1,7 @@
 -- What the proofs of this crate share.
-pub mod LockLists
-pub mod SparingLemmas
-pub mod UnlockLemmas
-pub mod AnswerLemmas
-pub mod EnoughLemmas
+
+mod AnswerLemmas
+mod EnoughLemmas
+mod LockLists
+mod SparingLemmas
+mod UnlockLemmas

@@ -1,39 +1,22 @@
 -- Lists of locks, and what is left when one is taken away.
-use Rattle.std.proofs.Common.{◌≡◌, ℕ, zero, suc, ◌+◌, ◌<◌, ◌≤◌, Bool, true, false, ◌&&◌, ◌||◌, cond, List, [], ◌∷◌, length, get_or, remove, Some, refl, ap, sym, subst, ◌∙◌, arith}
+use Rattle.std.proofs.Common.{◌≡◌, ℕ, zero, suc, ◌+◌, ◌<◌, ◌≤◌, Bool, true, false, ◌||◌, cond, List, [], ◌∷◌, length, get_or, remove, Some, refl, ap, sym, subst, ◌∙◌, arith}
 use Rattle.std.specs.Prelude.{IsTrue, slice_get, ◌==◌}
 use Rattle.std.specs.Option.{option_map_or}
 use Rattle.std.proofs.Math.Path.{fun_ext}
-use Rattle.std.proofs.lemmas.Bool.{eq-eqb, eqb-true, ne_eqb}
+use Rattle.std.proofs.lemmas.Bool.{eq-eqb, eqb-true, ne_eqb, or_right, or_left, or_from}
 use Rattle.rf_log.specs.Case.{is_among}
 use Rattle.rf_show.specs.Show.{ShowData}
 use Rattle.rf_show.specs.declared.carrier.Carrier.{Carrier}
-use Rattle.rf_tighter.specs.Locked.{locked_from, locked_to, kept}
+use Rattle.rf_tighter.specs.Locked.{locked_to, kept}
 use Rattle.rf_core.specs.Blocking.{AreLocks, is_locked_at, locks_from, locks_of}
+use Rattle.rf_base.proofs.BoolLaws.{or_swap}
+use Rattle.rf_tighter.proofs.LockedLaws.{all-locked}
 
 -- ---- tests
 
 or_more : (a b c : Bool) → (b ≡ true → c ≡ true) → (a || b) ≡ true → (a || c) ≡ true
 or_more true b c f h = refl
 or_more false b c f h = f h
-
-or_right : (a b : Bool) → b ≡ true → (a || b) ≡ true
-or_right true b h = refl
-or_right false b h = h
-
-or_left : (a b : Bool) → a ≡ true → (a || b) ≡ true
-or_left a b h = rw h refl
-
-or_false : (a b : Bool) → a ≡ false → b ≡ false → (a || b) ≡ false
-or_false a b h k = rw (h, k) refl
-
-or_swap : (a b c : Bool) → (a || (b || c)) ≡ (b || (a || c))
-or_swap true true c = refl
-or_swap true false c = refl
-or_swap false b c = refl
-
-and_same : (b k : Bool) → (b ≡ true → k ≡ true) → (b && k) ≡ b
-and_same true k h = h refl
-and_same false k h = refl
 
 -- ---- a list without one item
 
@@ -97,7 +80,7 @@ locks-remove show from (x ∷ xs) (suc i) h = (h.0, h.1, locks-remove show (x + 
 not-below : (show : ShowData) (from c : ℕ) (xs : List ℕ) → c < from → AreLocks show from xs → is_among xs c ≡ false
 not-below show from c [] low h = refl
 not-below show from c (x ∷ xs) low h =
-    or_false (x == c) _ (ne_eqb x c (λ same. absurd (omega (arith, same, low, h.0)))) (not-below show (x + 1) c xs (omega (arith, low, h.0)) h.2)
+    or_from (x == c) _ (ne_eqb x c (λ same. absurd (omega (arith, same, low, h.0)))) (not-below show (x + 1) c xs (omega (arith, low, h.0)) h.2)
 
 -- the item that is taken away is locked, and it is gone
 pub lost-lock : (show : ShowData) (from : ℕ) (xs : List ℕ) (i y : ℕ) → AreLocks show from xs → i < length xs → y ≡ get_or xs i y
@@ -108,7 +91,7 @@ lost-lock show from (x ∷ xs) zero y h low e =
     (omega (arith, same, h.0), subst (λ n. IsTrue (is_locked_at show n)) same h.1, not-below show (x + 1) y xs (omega (arith, same)) h.2)
 lost-lock show from (x ∷ xs) (suc i) y h low e =
     let rest = lost-lock show (x + 1) xs i y h.2 (omega (arith, low)) e in
-    (omega (arith, h.0, rest.0), rest.1, or_false (x == y) _ (ne_eqb x y (λ same. absurd (omega (arith, same, rest.0)))) rest.2)
+    (omega (arith, h.0, rest.0), rest.1, or_from (x == y) _ (ne_eqb x y (λ same. absurd (omega (arith, same, rest.0)))) rest.2)
 
 -- ---- all locks
 
@@ -145,15 +128,9 @@ among-locks place (d ∷ cs) (suc i) c e locked =
     among-cond d.locked place (place + suc i) (locks_from (place + 1) cs)
     (subst (λ n. is_among (locks_from (place + 1) cs) n ≡ true) (omega arith) (among-locks (place + 1) cs i c e locked))
 
-all-kept : (place : ℕ) (keep : ℕ → Bool) (cs : List Carrier) → ((i : ℕ) (c : Carrier) → slice_get cs i ≡ Some c → c.locked ≡ true → keep (place + i) ≡ true) → locked_from place keep cs ≡ cs
-all-kept place keep [] h = refl
-all-kept place keep (c ∷ cs) h =
-    ap (λ b. record c { locked = b } ∷ locked_from (place + 1) keep cs) (and_same c.locked (keep place) (λ locked. ap keep (omega arith) ∙ h 0 c refl locked))
-    ∙ ap (λ xs. c ∷ xs) (all-kept (place + 1) keep cs (λ i d e locked. ap keep (omega arith) ∙ h (suc i) d e locked))
-
 pub kept-all : (show : ShowData) → kept show (locks_of show) ≡ show
 kept-all show =
-    ap (λ cs. record show { carriers = cs }) (all-kept 0 (is_among (locks_of show)) show.carriers (λ i c e locked. among-locks 0 show.carriers i c e locked))
+    ap (λ cs. record show { carriers = cs }) (all-locked 0 (is_among (locks_of show)) show.carriers (λ i c e locked. among-locks 0 show.carriers i c e locked))
 
 -- the same set makes the same show
 pub kept-same : (show : ShowData) (xs ys : List ℕ) → ((c : ℕ) → is_among xs c ≡ is_among ys c) → kept show xs ≡ kept show ys

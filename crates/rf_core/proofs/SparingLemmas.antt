@@ -1,14 +1,13 @@
 -- What a try without one lock keeps.
-use Rattle.std.proofs.Common.{◌≡◌, ℕ, zero, suc, ◌+◌, ◌<◌, ◌≤◌, ◌++◌, List, [], ◌∷◌, length, get_or, remove, Some, None, refl, sym, subst, ap, ◌∙◌, arith, inl, inr}
-use Rattle.std.specs.Prelude.{slice_index_or}
-use Rattle.std.specs.Prelude.{Result, Ok, Err, IfOk}
+use Rattle.std.proofs.Common.{◌≡◌, ℕ, zero, suc, ◌+◌, ◌<◌, ◌≤◌, ◌++◌, List, [], ◌∷◌, length, get_or, remove, Some, None, refl, sym, subst, ap, ◌∙◌, arith, inl, inr, slice_index_or, Result}
+use Rattle.std.proofs.Common.{Ok, Err, IfOk}
 use Rattle.rf_log.specs.Case.{IsPlan}
 use Rattle.rf_log.specs.Solved.{refuted, spent}
 use Rattle.rf_log.specs.declared.line.LogLine.{LogLine}
 use Rattle.rf_show.specs.Show.{ShowData}
 use Rattle.rf_show.specs.Case.{case_of}
 use Rattle.rf_tighter.specs.Locked.{FewerLocksKeepPlans, kept}
-use Rattle.rf_decide.specs.Decisions.{Calls, no_call, and_call}
+use Rattle.rf_decide.specs.Decisions.{Calls, and_call}
 use Rattle.rf_solving.specs.Solving.{IsSolvedBy}
 use Rattle.rf_core.specs.Blocking.{AreLocks, IsStuck, locks_of}
 use Rattle.rf_core.specs.Sparing.{AtMostOnce, IsUnderWay, untried}
@@ -70,7 +69,3 @@ once-more {S} {asked} {show} {n} {first} {mid} {last} {held} u room (inl same) =
     (u.done, omega (arith, u.sum), omega (arith, u.sum), subst (λ s. Calls asked u.done first s) (sym same) u.calls)
 once-more {S} {asked} {show} {n} {first} {mid} {last} {held} u room (inr made) =
     (suc u.done, omega (arith, u.sum), omega (arith, u.sum, room), and_call u.calls made.1)
-
-pub one-before : {S : Type 0} {asked : S → ShowData → S → Type 0} {first mid last : S} {n : ℕ} (show : ShowData) → asked first show mid → Calls asked n mid last → Calls asked (suc n) first last
-one-before {S} {asked} {first} {mid} {last} {n} show once no_call = and_call no_call once
-one-before {S} {asked} {first} {mid} {last} {n} show once (and_call calls again) = and_call (one-before show once calls) again

@@ -1,8 +1,8 @@
 -- Locks are given up, one carrier after another.
 use Rattle.std.proofs.Common.{◌≡◌, ℕ, zero, suc, ◌+◌, ◌<◌, ◌≤◌, Bool, true, false, not, ◌&&◌, ◌||◌, cond, find, List, [], ◌∷◌, Option, Some, get_or, length, refl, ap, sym, ◌∙◌, arith}
-use Rattle.std.specs.Prelude.{IsTrue, is_some, slice_get, nat_eq, nat_le}
+use Rattle.std.specs.Prelude.{IsTrue, is_some, slice_get, nat_le}
 use Rattle.std.specs.List.{list_any}
-use Rattle.std.proofs.lemmas.Bool.{and_from, and_parts, eq-eqb}
+use Rattle.std.proofs.lemmas.Bool.{and_parts, or_parts, not-true, or_right}
 use Rattle.std.proofs.lemmas.Bool.Decides.{nat_tests}
 use Rattle.rf_base.specs.Name.{same_name}
 use Rattle.rf_log.specs.Case.{is_among}
@@ -13,6 +13,9 @@ use Rattle.rf_show.specs.declared.carrier.Carrier.{Carrier}
 use Rattle.rf_show.specs.declared.edit.Edit.TheVariants.{Unlock}
 use Rattle.rf_tighter.specs.Locked.{kept, locked_from}
 use Rattle.rf_core.specs.Unlocking.{eased_below, is_left}
+use mathlib.Core.Bool.{and-false}
+use Rattle.rf_base.proofs.NameLaws.{own_name}
+use Rattle.rf_show.proofs.KeptLaws.{names_differ}
 
 abbrev unlocked : Carrier → Carrier
 unlocked c = record c { locked = false }
@@ -21,19 +24,6 @@ abbrev held_by : Bool → Carrier → Carrier
 held_by keep c = record c { locked = c.locked && keep }
 
 -- ---- names
-
-same-name : (name : List ℕ) → same_name name name ≡ true
-same-name [] = refl
-same-name (b ∷ bs) = and_from (nat_eq b b) _ (eq-eqb b b refl) (same-name bs)
-
-pub names-differ : (show : ShowData) → IsTrue (is_show show) → differ (carrier_names show.carriers) ≡ true
-unfolding is_show
-names-differ show h =
-    let three = and_parts _ _ h in
-    let two = and_parts _ _ three.0 in
-    let carriers = and_parts _ _ (and_parts _ _ two.0).1 in
-    let named = and_parts _ _ carriers.0 in
-    (and_parts _ _ named.0).1
 
 some_if : {X : Type 0} (b : Bool) (x : X) (o : Option X) → is_some o ≡ true → is_some (cond b (Some x) o) ≡ true
 some_if true x o h = refl
@@ -50,29 +40,17 @@ has-locked place f [] (suc i) c e = cc
 has-locked place f (x ∷ xs) zero c e =
     let same : x ≡ c = cc in
     some_here (same_name x.name c.name) (held_by (f place) x) (find (is_carrier c.name) (locked_from (place + 1) f xs))
-    (ap (λ (y : Carrier). same_name y.name c.name) same ∙ same-name c.name)
+    (ap (λ (y : Carrier). same_name y.name c.name) same ∙ own_name c.name)
 has-locked place f (x ∷ xs) (suc i) c e =
     some_if (same_name x.name c.name) (held_by (f place) x) (find (is_carrier c.name) (locked_from (place + 1) f xs)) (has-locked (place + 1) f xs i c e)
 
 -- ---- one carrier less
 
-and_none : (b : Bool) → (b && false) ≡ false
-and_none true = refl
-and_none false = refl
-
-not_so : (b : Bool) → not b ≡ true → b ≡ false
-not_so true h = cc
-not_so false h = refl
-
-or_none : (a b : Bool) → (a || b) ≡ false → (a ≡ false) × (b ≡ false)
-or_none true b h = cc
-or_none false b h = (refl, h)
-
 none-at : (q : List ℕ → Bool) (cs : List Carrier) (i : ℕ) (c : Carrier) → list_any q (carrier_names cs) ≡ false → slice_get cs i ≡ Some c → q c.name ≡ false
 none-at q [] zero c h e = cc
 none-at q [] (suc i) c h e = cc
-none-at q (x ∷ xs) zero c h e = let same : x ≡ c = cc in sym (ap (λ (y : Carrier). q y.name) same) ∙ (or_none (q x.name) _ h).0
-none-at q (x ∷ xs) (suc i) c h e = none-at q xs i c (or_none (q x.name) _ h).1 e
+none-at q (x ∷ xs) zero c h e = let same : x ≡ c = cc in sym (ap (λ (y : Carrier). q y.name) same) ∙ (or_parts (q x.name) _ h).0
+none-at q (x ∷ xs) (suc i) c h e = none-at q xs i c (or_parts (q x.name) _ h).1 e
 
 locked-same : (place : ℕ) (f g : ℕ → Bool) (cs : List Carrier) → ((j : ℕ) → place ≤ j → j < place + length cs → f j ≡ g j) → locked_from place f cs ≡ locked_from place g cs
 locked-same place f g [] h = refl
@@ -88,12 +66,12 @@ unlock-step place f g [] (suc i) c d e h gone = cc
 unlock-step place f g (x ∷ xs) zero c d e h gone =
     let same : x ≡ c = cc in
     let rest = change_first (is_carrier c.name) unlocked (locked_from (place + 1) f xs) in
-    ap (λ b. cond b (unlocked x ∷ locked_from (place + 1) f xs) (held_by (f place) x ∷ rest)) (ap (λ (y : Carrier). same_name y.name c.name) same ∙ same-name c.name)
-    ∙ ap (λ b. record x { locked = b } ∷ locked_from (place + 1) f xs) (sym (ap (λ b. x.locked && b) (ap g (omega arith) ∙ gone) ∙ and_none x.locked))
+    ap (λ b. cond b (unlocked x ∷ locked_from (place + 1) f xs) (held_by (f place) x ∷ rest)) (ap (λ (y : Carrier). same_name y.name c.name) same ∙ own_name c.name)
+    ∙ ap (λ b. record x { locked = b } ∷ locked_from (place + 1) f xs) (sym (ap (λ b. x.locked && b) (ap g (omega arith) ∙ gone) ∙ and-false x.locked))
     ∙ ap (λ ys. held_by (g place) x ∷ ys) (locked-same (place + 1) f g xs (λ j low high. h j (λ at. absurd (omega (arith, at, low)))))
 unlock-step place f g (x ∷ xs) (suc i) c d e h gone =
     let parts = and_parts (not (list_any (same_name x.name) (carrier_names xs))) _ d in
-    let other = none-at (same_name x.name) xs i c (not_so _ parts.0) e in
+    let other = none-at (same_name x.name) xs i c (not-true _ parts.0) e in
     let rest = change_first (is_carrier c.name) unlocked (locked_from (place + 1) f xs) in
     ap (λ b. cond b (unlocked x ∷ locked_from (place + 1) f xs) (held_by (f place) x ∷ rest)) other
     ∙ ap (λ b. held_by b x ∷ rest) (h place (λ at. absurd (omega (arith, at))))
@@ -126,10 +104,6 @@ off-kept keep i j there gone at = clash _ (sym (ap (is_among keep) at) ∙ gone)
     clash true e t = cc
     clash false e t = cc
 
-or_right : (a b : Bool) → b ≡ true → (a || b) ≡ true
-or_right true b h = refl
-or_right false b h = h
-
 le-first : (j : ℕ) → nat_le 0 j ≡ true
 le-first j = grind (arith, nat_tests)
 
@@ -155,7 +129,7 @@ pub eased-given : (show : ShowData) (keep : List ℕ) (i : ℕ) (c : Carrier) �
     → edited (eased_below show keep i) (Unlock c.name) ≡ eased_below show keep (i + 1)
 eased-given show keep i c form e gone =
     ap (λ cs. record show { carriers = cs })
-    (unlock-step 0 (is_left keep i) (is_left keep (i + 1)) show.carriers i c (names-differ show form) e
+    (unlock-step 0 (is_left keep i) (is_left keep (i + 1)) show.carriers i c (names_differ show form) e
     (λ j off. ap (λ b. is_among keep j || b) (le-further i j (λ at. off (omega (arith, at)))))
     (ap (is_left keep (i + 1)) (omega arith) ∙ or_none_right _ _ (le-next i) ∙ gone))
 

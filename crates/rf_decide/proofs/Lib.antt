@@ -1,2 +1,3 @@
-pub mod PlanTexts
-pub mod KeptLines
+pub mod CallLaws
+mod KeptLines
+mod PlanTexts

@@ -1,22 +1,19 @@
 -- The lines of a plan, one carrier after another.
-use Rattle.std.proofs.Common.{◌≡◌, ℕ, ◌<◌, ◌≤◌, ◌+◌, ◌++◌, List, [], length, take, get_or, ap, sym, ◌∙◌, arith}
-use Rattle.std.specs.Prelude.{slice_index}
-use Rattle.std.proofs.lemmas.List.{get_or-map, length-map}
+use Rattle.std.proofs.Common.{◌≡◌, ℕ, ◌<◌, ◌≤◌, ◌+◌, ◌++◌, List, [], length, take, get_or, ap, sym, ◌∙◌, arith, slice_index}
+use Rattle.std.proofs.lemmas.List.{get_or-map}
 use Rattle.std.proofs.lemmas.List.FromFn.{get_or-map-range_with_len, length-map-range_with_len}
 use Rattle.rf_log.specs.Case.{freq_of}
 use Rattle.rf_show.specs.Case.{case_of}
 use Rattle.rf_show.specs.Show.{ShowData, carrier_names}
 use Rattle.rf_show.specs.declared.carrier.Carrier.{Carrier}
 use Rattle.rf_solving.specs.Solving.{at_line, at_lines, plan_freqs}
-use Rattle.rf_solving.proofs.ListLemmas.{lines_more, lines_whole}
+use Rattle.rf_solving.proofs.LinesLaws.{lines_more, lines_whole}
 use Rattle.rf_decide.specs.Texts.{plan_text}
+use Rattle.rf_show.proofs.KeptLaws.{names_many}
 
 -- the lines of the first carriers
 abbrev pub lines_below : ShowData → List ℕ → ℕ → List ℕ
 lines_below show plan k = at_lines (take k (carrier_names show.carriers)) (take k (plan_freqs show plan))
-
-names_many : (show : ShowData) → length (carrier_names show.carriers) ≡ length show.carriers
-names_many show = length-map show.carriers (λ c. c.name)
 
 as_many : (show : ShowData) (plan : List ℕ) → length (carrier_names show.carriers) ≡ length (plan_freqs show plan)
 as_many show plan =

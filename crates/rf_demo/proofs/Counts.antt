@@ -1,6 +1,5 @@
 -- How many lines are drawn.
-use Rattle.std.proofs.Common.{◌≡◌, ◌<◌, ◌-◌, ℕ, List, [], ◌∷◌, ◌++◌, None, drop, length, refl, ap, zero, suc, arith}
-use Rattle.std.specs.Prelude.{slice_get}
+use Rattle.std.proofs.Common.{◌≡◌, ◌<◌, ◌-◌, ℕ, List, [], ◌∷◌, ◌++◌, None, drop, length, refl, ap, zero, suc, arith, slice_get}
 use Rattle.rf_demo.specs.Lines.{drawn_lines, opening, turn_from}
 
 pub drawn_many : (count state : ℕ) → length (drawn_lines count state) ≡ count

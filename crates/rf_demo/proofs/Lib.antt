@@ -1,2 +1,2 @@
-pub mod Counts
-pub mod Draws
+mod Counts
+mod Draws

@@ -1,6 +1,6 @@
 -- Words with a range of bits set or cleared.
 use Rattle.std.proofs.Common.{replicate, ◌≡◌, ◌≢◌, ℕ, zero, suc, ◌+◌, ◌-◌, ◌*◌, ◌/◌, ◌%◌, ◌^◌, ◌<◌, ◌≤◌, min, max, List, [], Bool, true, false, not, ◌&&◌, ◌||◌, length, get_or, set, refl, sym, ◌∙◌}
-use Rattle.std.proofs.Common.{ap, arith, ◌⊎◌, inl, inr, w64}
+use Rattle.std.proofs.Common.{ap, arith, inl, inr, w64}
 use Rattle.std.specs.Prelude.{Option, None, Some, MatchOption, ◌==◌, nat_le, nat_lt, slice_index_or, bit_and, bit_or}
 use Rattle.std.specs.Int.{bit_at, bit_not, trailing_zeros}
 use Rattle.std.proofs.lemmas.Bool.{cases_Bool, cases_lt, and_parts, leb-true, ltb-true, true≢false}
@@ -15,6 +15,8 @@ use Rattle.std.proofs.lemmas.Bool.Decides.{nat_tests}
 use Rattle.std.proofs.lemmas.Grind.{common_steps}
 use Rattle.rf_domain.specs.declared.limits.TheConstants.{INDEX_LIMIT}
 use Rattle.rf_domain.specs.Indices.{flag, has_bit, between, flags_of, IsPadded, IsWhole, IsFirstBit, IsFirstClear, IsRun, HasNoneFrom, IsNext}
+use Rattle.rf_base.proofs.NumberLaws.{below_two, min_test, max_test}
+use Rattle.rf_base.proofs.BoolLaws.{not_is}
 
 -- the mask that is made by two shifts has the bits from first to last
 pub mask_bit : (first last i : ℕ) → first ≤ last → last < 64 → i < 64
@@ -36,23 +38,6 @@ mask_bit first last i ordered small here =
 pub between_shift : (base lo hi i : ℕ) → base ≤ hi → lo ≤ base + 63 → i < 64
     → between (max lo base - base) (min hi (base + 63) - base) i ≡ between lo hi (base + i)
 between_shift base lo hi i low high here = grind (arith, nat_tests)
-
-below_two : (a : ℕ) → a < 2 → (a ≡ 0) ⊎ (a ≡ 1)
-below_two zero h = inl refl
-below_two (suc zero) h = inr refl
-below_two (suc (suc a)) h = absurd (omega arith)
-
-pub min_test : (a b : ℕ) → a < 2 → b < 2 → (min a b == 1) ≡ ((a == 1) && (b == 1))
-min_test a b small_a small_b = elim (below_two a small_a) [
-  | inl e ↦ rw e (elim (below_two b small_b) [ inl d ↦ rw d | inr d ↦ rw d ])
-  | inr e ↦ rw e (elim (below_two b small_b) [ inl d ↦ rw d | inr d ↦ rw d ])
-]
-
-max_test : (a b : ℕ) → a < 2 → b < 2 → (max a b == 1) ≡ ((a == 1) || (b == 1))
-max_test a b small_a small_b = elim (below_two a small_a) [
-  | inl e ↦ rw e (elim (below_two b small_b) [ inl d ↦ rw d | inr d ↦ rw d ])
-  | inr e ↦ rw e (elim (below_two b small_b) [ inl d ↦ rw d | inr d ↦ rw d ])
-]
 
 pub flip_test : (b : ℕ) → b < 2 → (1 - b == 1) ≡ not (b == 1)
 flip_test b small_b = elim (below_two b small_b) [ inl d ↦ rw d | inr d ↦ rw d ]
@@ -119,9 +104,6 @@ changed_step f before now lo hi w word mask changed known bits masked = record {
 pub between_below : (lo hi k : ℕ) → k / 64 < lo / 64 → between lo hi k ≡ false
 between_below lo hi k h = let low : k < lo = omega arith in grind (arith, nat_tests)
 
-pub past_range : (lo hi k : ℕ) → hi < k → between lo hi k ≡ false
-past_range lo hi k past = grind (arith, nat_tests)
-
 pub between_above : (lo hi k : ℕ) → hi / 64 < k / 64 → between lo hi k ≡ false
 between_above lo hi k h = let high : hi < k = omega arith in grind (arith, nat_tests)
 
@@ -144,22 +126,6 @@ changed_last f idle before now lo hi changed k = elim (cases_lt (k / 64) (hi / 6
 pub and_idle : (b : Bool) → (b && not false) ≡ b
 and_idle true = refl
 and_idle false = refl
-
-pub not_not : (b : Bool) → not (not b) ≡ b
-not_not true = refl
-not_not false = refl
-
-pub and_false : (b : Bool) → (b && false) ≡ false
-and_false true = refl
-and_false false = refl
-
-pub or_true : (b : Bool) → (b || true) ≡ true
-or_true true = refl
-or_true false = refl
-
-pub or_idle : (b : Bool) → (b || false) ≡ b
-or_idle true = refl
-or_idle false = refl
 
 -- the padding stays where only indices below the size are changed
 pub padded_less : (size : ℕ) (before now : List ℕ) (lo hi : ℕ) → IsPadded size before → length now ≡ length before
@@ -255,10 +221,6 @@ word_found words k word is fits some = record {
 not_bit : (w i : ℕ) → w < 2 ^ 64 → i < 64 → (bit_at (bit_not w64 w) i == 1) ≡ not (bit_at w i == 1)
 not_bit w i fits here = rw (bit_at_not w64 w i fits here) (flip_test (bit_at w i) (bit_at-lt w i))
 
-unflip : (a b : Bool) → not a ≡ b → a ≡ not b
-unflip true b e = ap not e
-unflip false b e = ap not e
-
 clear_later : (words : List ℕ) (k i : ℕ) → get_or words (k / 64) 0 < 2 ^ 64 → k % 64 + i < 64
     → (bit_at (bit_not w64 (get_or words (k / 64) 0) / 2 ^ (k % 64)) i == 1) ≡ not (has_bit words (k + i))
 clear_later words k i fits within =
@@ -271,7 +233,7 @@ pub word_set : (words : List ℕ) (k j : ℕ) → get_or words (k / 64) 0 < 2 ^ 
 word_set words k j fits empty later within =
     let at : k + (j - k) ≡ j = omega arith in
     ap (has_bit words) (sym at)
-    ∙ unflip (has_bit words (k + (j - k))) false (sym (clear_later words k (j - k) fits (omega arith)) ∙ ap (λ x. bit_at x (j - k) == 1) empty ∙ ap (λ x. x == 1) (bit_at-zero (j - k)))
+    ∙ not_is (has_bit words (k + (j - k))) false (sym (clear_later words k (j - k) fits (omega arith)) ∙ ap (λ x. bit_at x (j - k) == 1) empty ∙ ap (λ x. x == 1) (bit_at-zero (j - k)))
 
 pub record FoundClear (words : List ℕ) (k t : ℕ) : Type 0 where
   pub within : k % 64 + t < 64
@@ -282,11 +244,11 @@ pub word_clear_found : (words : List ℕ) (k word : ℕ) → word ≡ bit_not w6
     → word ≢ 0 → FoundClear words k (trailing_zeros w64 word)
 word_clear_found words k word is fits some = record {
   within = within;
-  here = unflip (has_bit words (k + t)) true (sym (clear_later words k t fits within) ∙ ap (λ x. bit_at x t == 1) (sym is) ∙ ap (λ x. x == 1) first.1);
+  here = not_is (has_bit words (k + t)) true (sym (clear_later words k t fits within) ∙ ap (λ x. bit_at x t == 1) (sym is) ∙ ap (λ x. x == 1) first.1);
   before = λ j later below.
       let at : k + (j - k) ≡ j = omega arith in
       ap (has_bit words) (sym at)
-      ∙ unflip (has_bit words (k + (j - k))) false (sym (clear_later words k (j - k) fits (omega (arith, within))) ∙ ap (λ x. bit_at x (j - k) == 1) (sym is)
+      ∙ not_is (has_bit words (k + (j - k))) false (sym (clear_later words k (j - k) fits (omega (arith, within))) ∙ ap (λ x. bit_at x (j - k) == 1) (sym is)
       ∙ ap (λ x. x == 1) (first.2 (j - k) (omega arith)));
 }
   where

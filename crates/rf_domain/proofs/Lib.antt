@@ -1,6 +1,7 @@
-pub mod Bits
-pub mod Counting
-pub mod Swept
-pub mod Lowest
-pub mod SetsLemmas
-pub mod Within
+pub mod CountLaws
+pub mod RangeLaws
+pub mod SetsLaws
+mod Bits
+mod Lowest
+mod Swept
+mod Within

@@ -1,11 +1,12 @@
 -- How the count and the lowest bit follow a change of a range.
-use Rattle.std.proofs.Common.{◌≡◌, ℕ, zero, suc, ◌+◌, ◌-◌, ◌<◌, ◌≤◌, min, List, Bool, true, false, not, ◌&&◌, ◌||◌, length, refl, sym, ◌∙◌, ap, arith, inl, inr}
-use Rattle.std.specs.Prelude.{if◌then◌else◌, nat_lt}
+use Rattle.std.proofs.Common.{◌≡◌, ℕ, zero, suc, ◌+◌, ◌-◌, ◌<◌, ◌≤◌, min, List, Bool, true, false, not, ◌&&◌, ◌||◌, length, refl, sym, ◌∙◌, ap, arith, inl, inr, if◌then◌else◌, nat_lt}
 use Rattle.std.proofs.lemmas.Bool.{cases_Bool, cases_lt}
 use Rattle.std.proofs.lemmas.Bool.Decides.{nat_tests}
 use Rattle.rf_domain.specs.Indices.{flag, has_bit, between, flags_of, count_below, IsPadded, IsKept, IsLowest, IsOnly, IsNext, HasNoneFrom}
-use Rattle.rf_domain.proofs.Bits.{length-flags_of, flag-flags_of, clear_past, past_range, and_false, or_true, padded_less, padded_more}
-use Rattle.rf_domain.proofs.Counting.{count_ext, count_none, count_tail, count_parted, count_joined, count_sole, count_alone, count_zero}
+use Rattle.rf_domain.proofs.Bits.{length-flags_of, flag-flags_of, clear_past, padded_less, padded_more}
+use Rattle.rf_domain.proofs.CountLaws.{count_ext, count_none, count_tail, count_parted, count_joined, count_sole, count_alone, count_zero}
+use mathlib.Core.Bool.{and-false, or-true}
+use Rattle.rf_domain.proofs.RangeLaws.{past_range}
 
 -- the count after a range is cleared
 pub count_cleared : (size : ℕ) (old now : List ℕ) (lo hi removed : ℕ) → hi < size
@@ -14,7 +15,7 @@ pub count_cleared : (size : ℕ) (old now : List ℕ) (lo hi removed : ℕ) → 
     → count_below (has_bit old) size ≡ count_below (has_bit now) size + removed
 count_cleared size old now lo hi removed within bits counted =
     let tail : count_below (λ k. has_bit old k && between lo hi k) size ≡ count_below (λ k. has_bit old k && between lo hi k) (hi + 1) =
-    count_tail (λ k. has_bit old k && between lo hi k) (hi + 1) size (omega arith) (λ k past below. ap (λ b. has_bit old k && b) (past_range lo hi k (omega arith)) ∙ and_false (has_bit old k)) in
+    count_tail (λ k. has_bit old k && between lo hi k) (hi + 1) size (omega arith) (λ k past below. ap (λ b. has_bit old k && b) (past_range lo hi k (omega arith)) ∙ and-false (has_bit old k)) in
     let left : count_below (has_bit now) size ≡ count_below (λ k. has_bit old k && not (between lo hi k)) size = count_ext _ _ size (λ k below. bits k) in
     let parts = count_parted (has_bit old) (between lo hi) size in
     omega arith
@@ -52,7 +53,7 @@ lowest_after size old now lo hi first next ordered lowest bits within here least
       | inl early ↦ bits j ∙ ap (λ b. b && not (between lo hi j)) (lowest.below j early)
       | inr late ↦
           let test : between lo hi j ≡ true = grind (arith, nat_tests) in
-          bits j ∙ ap (λ b. has_bit old j && not b) test ∙ and_false (has_bit old j)
+          bits j ∙ ap (λ b. has_bit old j && not b) test ∙ and-false (has_bit old j)
     ]
   ];
 }
@@ -69,7 +70,7 @@ lowest_filled size old now lo hi first ordered within lowest bits = record {
     | inr late ↦
         let at : min first lo ≡ lo = omega arith in
         let test : between lo hi lo ≡ true = grind (arith, nat_tests) in
-        bits (min first lo) ∙ ap (λ k. has_bit old k || between lo hi k) at ∙ ap (λ b. has_bit old lo || b) test ∙ or_true (has_bit old lo)
+        bits (min first lo) ∙ ap (λ k. has_bit old k || between lo hi k) at ∙ ap (λ b. has_bit old lo || b) test ∙ or-true (has_bit old lo)
   ];
   below = λ j low.
       let test : between lo hi j ≡ false = let early : j < lo = omega arith in grind (arith, nat_tests) in

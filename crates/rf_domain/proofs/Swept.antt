@@ -1,11 +1,12 @@
 -- A loop over the words of a range, which changes bits and counts some of them.
-use Rattle.std.proofs.Common.{◌≡◌, ℕ, ◌+◌, ◌*◌, ◌/◌, ◌%◌, ◌^◌, ◌<◌, ◌≤◌, List, Bool, false, ◌&&◌, length, set, refl, sym, ◌∙◌, ap, subst, arith}
-use Rattle.std.specs.Prelude.{◌==◌, slice_index_or, count_ones, bit_and}
+use Rattle.std.proofs.Common.{◌≡◌, ℕ, ◌+◌, ◌*◌, ◌/◌, ◌%◌, ◌^◌, ◌<◌, ◌≤◌, List, Bool, false, ◌&&◌, length, set, refl, sym, ◌∙◌, ap, subst, arith, ◌==◌, slice_index_or, count_ones, bit_and}
 use Rattle.std.specs.Int.{bit_at}
 use Rattle.std.proofs.lemmas.Nat.Bits.{bit_at_and, bit_at-lt}
 use Rattle.rf_domain.specs.Indices.{has_bit, between, count_below}
-use Rattle.rf_domain.proofs.Bits.{Changed, changed_first, changed_last, changed_step, between_below, past_range, min_test}
-use Rattle.rf_domain.proofs.Counting.{count_none, count_bound, count_tail, word_part}
+use Rattle.rf_domain.proofs.Bits.{Changed, changed_first, changed_last, changed_step, between_below}
+use Rattle.rf_domain.proofs.CountLaws.{count_none, count_bound, count_tail, word_part}
+use Rattle.rf_base.proofs.NumberLaws.{min_test}
+use Rattle.rf_domain.proofs.RangeLaws.{past_range}
 
 -- the words below `upto` are changed by f, and those of their bits are counted that g picks
 pub record Swept (f g : Bool → Bool → Bool) (before now : List ℕ) (lo hi upto count : ℕ) : Type 0 where

@@ -1,18 +1,13 @@
 -- Whether one set's indices are all in another.
-use Rattle.std.proofs.Common.{◌≡◌, ◌≢◌, ℕ, ◌+◌, ◌*◌, ◌/◌, ◌%◌, ◌^◌, ◌<◌, List, [], Bool, true, false, not, ◌&&◌, length, get_or, refl, sym, ◌∙◌, ap, arith, w64}
-use Rattle.std.specs.Prelude.{◌==◌, ◌↔◌}
+use Rattle.std.proofs.Common.{◌≡◌, ◌≢◌, ℕ, ◌+◌, ◌*◌, ◌/◌, ◌%◌, ◌^◌, ◌<◌, List, [], Bool, true, not, ◌&&◌, length, get_or, sym, ◌∙◌, ap, arith, w64, ◌==◌, ◌↔◌, true≢false}
 use Rattle.std.specs.Int.{bit_at, trailing_zeros}
-use Rattle.std.proofs.lemmas.Bool.{and_parts, true≢false}
+use Rattle.std.proofs.lemmas.Bool.{and_parts, not-true}
 use Rattle.std.proofs.lemmas.Nat.Bits.{bit_at-trailing_zeros}
 use Rattle.rf_domain.specs.Indices.{flag, has_bit, flags_of, IsPadded, HasBitsWithin, IsWithin}
 use Rattle.std.proofs.lemmas.List.{length-map}
 use Rattle.rf_domain.specs.Sets.{size_of, sizes, AreWithin}
 use Rattle.rf_domain.proofs.Bits.{run_flag}
-use Rattle.rf_domain.proofs.SetsLemmas.{size_get}
-
-not_true : (b : Bool) → not b ≡ true → b ≡ false
-not_true true e = sym e
-not_true false e = refl
+use Rattle.rf_domain.proofs.SetsLaws.{size_get}
 
 -- a word has a bit that the other lacks
 pub word_apart : (words others : List ℕ) (i lacks : ℕ) → lacks < 2 ^ 64 → lacks ≢ 0
@@ -27,7 +22,7 @@ word_apart words others i lacks fits some bits within =
     let both = and_parts (bit_at (get_or words i 0) t == 1) _ (sym (bits t small) ∙ ap (λ x. x == 1) first.1) in
     let here : has_bit words (64 * i + t) ≡ true = rw (word, place) both.0 in
     let there : (bit_at (get_or others i 0) t == 1) ≡ true = rw (word, place) at (within.each (64 * i + t) here) in
-    absurd (true≢false (sym there ∙ not_true _ both.1))
+    absurd (true≢false (sym there ∙ not-true _ both.1))
 
 -- sets of one size have as many words
 pub same_room : (size : ℕ) (words others : List ℕ) → IsPadded size words → IsPadded size others → length words ≡ length others

@@ -1,2 +1,2 @@
-pub mod SpanLemmas
-pub mod PointLemmas
+mod PointLemmas
+mod SpanLemmas

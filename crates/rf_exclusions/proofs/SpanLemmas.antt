@@ -6,6 +6,7 @@ use Rattle.std.proofs.lemmas.Bool.{cases_Bool, ltb-true, ltb-false, or_left, or_
 use Rattle.std.proofs.lemmas.Bool.Decides.{nat_tests}
 use Rattle.rf_exclusions.specs.declared.span.Span.{Span}
 use Rattle.rf_exclusions.specs.Spans.{between, has_in, AreApartFrom, AreApart, IsEmptySet, IsOnly, IsWithin, Misses, joined, with_span, left_of, right_of, without_span}
+use Rattle.rf_base.proofs.BoolLaws.{or_joined}
 
 join_between : (a b x lo hi : ℕ) → a ≤ b → lo ≤ hi → lo ≤ b + 1 → a ≤ hi + 1
     → between (min a lo) (max b hi) x ≡ (between a b x || between lo hi x)
@@ -16,10 +17,6 @@ or_swap true true c = refl
 or_swap true false c = refl
 or_swap false true c = refl
 or_swap false false c = refl
-
-or_comm : (a b c : Bool) → (a || (b || c)) ≡ ((a || b) || c)
-or_comm true b c = refl
-or_comm false b c = refl
 
 or_last : (a b : Bool) → (a || b) ≡ (b || a)
 or_last true true = refl
@@ -36,7 +33,7 @@ pub with_span-has : (low : ℕ) (span : Span) (spans : List Span) (x : ℕ) → 
 with_span-has low span [] x apart ok = or_last (between span.lo span.hi x) false
 with_span-has low span (next ∷ spans) x apart ok = elim (cases_Bool (nat_lt (next.hi + 1) span.lo)) [
   | inl before ↦ rw before (ap (λ (b : Bool). between next.lo next.hi x || b) (with_span-has (next.hi + 2) span spans x apart.2 ok)
-      ∙ or_comm (between next.lo next.hi x) (has_in spans x) (between span.lo span.hi x))
+      ∙ or_joined (between next.lo next.hi x) (has_in spans x) (between span.lo span.hi x))
   | inr not_before ↦ rw not_before (elim (cases_Bool (nat_lt (span.hi + 1) next.lo)) [
     | inl after ↦ rw after (or_last (between span.lo span.hi x) (has_in (next ∷ spans) x))
     | inr touching ↦
@@ -65,7 +62,7 @@ with_span-apart low span (next ∷ spans) apart from ok = elim (cases_Bool (nat_
 
 any_append : (xs ys : List Span) (x : ℕ) → has_in (xs ++ ys) x ≡ (has_in xs x || has_in ys x)
 any_append [] ys x = refl
-any_append (s ∷ xs) ys x = ap (λ (b : Bool). between s.lo s.hi x || b) (any_append xs ys x) ∙ or_comm (between s.lo s.hi x) (has_in xs x) (has_in ys x)
+any_append (s ∷ xs) ys x = ap (λ (b : Bool). between s.lo s.hi x || b) (any_append xs ys x) ∙ or_joined (between s.lo s.hi x) (has_in xs x) (has_in ys x)
 
 pieces_has : (gone span : Span) (x : ℕ) → gone.lo ≤ gone.hi → span.lo ≤ span.hi
     → has_in (left_of gone span ++ right_of gone span) x ≡ (between span.lo span.hi x && not (between gone.lo gone.hi x))

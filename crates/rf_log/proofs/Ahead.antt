@@ -15,8 +15,10 @@ use Rattle.rf_log.specs.declared.line.Cut.TheVariants.{Fix, Split}
 use Rattle.rf_log.specs.Case.{Case, IsPlan}
 use Rattle.rf_log.specs.Box.{Box, is_met, is_met_by, box_of, holds_throughout, between}
 use Rattle.rf_log.specs.Hints.{conds_in, nogood_at, box_after, is_dead_after}
-use Rattle.rf_log.specs.Walk.{Tree, unless, cause_of, knows_names, fits_indices, finds_lines, hints_work, ends_empty, follows_path, all_hold, left_side, right_side, turned, grown, walk}
-use Rattle.rf_log.proofs.Kept.{InBox, HoldsNoPlan, AreRight, in_box_of, throughout_met, hints-keep, living, implies}
+use Rattle.rf_log.specs.Walk.{Tree, cause_of, knows_names, fits_indices, finds_lines, hints_work, ends_empty, follows_path, all_hold, left_side, right_side, turned, grown, walk}
+use Rattle.rf_log.proofs.Kept.{InBox, HoldsNoPlan, AreRight, in_box_of, throughout_met, hints-keep, living}
+use Rattle.rf_base.proofs.BoolLaws.{implies}
+use Rattle.rf_log.proofs.WalkLaws.{nogood-push, passed}
 
 abbrev pub meets : List ℕ → Cond → Bool
 meets plan cond = is_met cond (slice_index plan cond.carrier)
@@ -101,19 +103,6 @@ nogood-right case lines conds hints right dead plan good here =
       | Some last ↦ λ e d. living case plan good last (hints-keep case plan good lines (box_of case conds) last hints right here e) d
     ] in
     all (box_after case lines conds hints) refl dead
-
--- what is found among the lines with one more
-pub nogood-push : (lines : List LogLine) (line : LogLine) (n : ℕ) (conds : List Cond) → nogood_at (lines ++ line ∷ []) n ≡ Some conds
-    → (nogood_at lines n ≡ Some conds) ⊎ (conds_in line ≡ Some conds)
-nogood-push lines line zero conds e = cc
-nogood-push [] line (suc zero) conds e = inr e
-nogood-push [] line (suc (suc n)) conds e = cc
-nogood-push (l ∷ lines) line (suc zero) conds e = inl e
-nogood-push (l ∷ lines) line (suc (suc n)) conds e = nogood-push lines line (suc n) conds e
-
-pub passed : (test : Bool) (reason : Cause) (rest : Option Cause) → unless test reason rest ≡ None → (test ≡ true) × (rest ≡ None)
-passed true reason rest e = (refl, e)
-passed false reason rest e = cc
 
 pub record IsPassed (case : Case) (lines : List LogLine) (path : List Cond) (line : LogLine) : Type 0 where
   pub empty : ends_empty case lines line ≡ true

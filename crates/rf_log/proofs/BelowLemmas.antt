@@ -1,7 +1,6 @@
 -- The carriers of a line that is read are places among the names with its names.
-use Rattle.std.proofs.Common.{◌≡◌, ◌∙◌, ◌+◌, ◌-◌, ◌<◌, ◌≤◌, ℕ, zero, suc, List, [], ◌∷◌, ◌++◌, Bool, true, false, refl, sym, arith, subst, length, take, drop, set, replicate, get_or, Some, None}
-use Rattle.std.proofs.Common.{length-set, length-append}
-use Rattle.std.specs.Prelude.{IfSome, option_map, option_and_then, codes, slice_set, if◌then◌else◌, nat_le, ◌&&◌}
+use Rattle.std.proofs.Common.{◌≡◌, ◌∙◌, ◌+◌, ◌-◌, ◌<◌, ◌≤◌, ℕ, zero, suc, List, [], ◌∷◌, ◌++◌, Bool, true, false, refl, sym, arith, subst, length, take, drop, set, replicate, get_or, Some}
+use Rattle.std.proofs.Common.{None, length-set, length-append, IfSome, codes, slice_set, if◌then◌else◌, nat_le, ◌&&◌}
 use Rattle.std.specs.declared.option.Option.{Option}
 use Rattle.std.specs.List.{All, list_any, position_or_len}
 use Rattle.std.specs.Str.{bytes_eq}
@@ -23,18 +22,7 @@ use Rattle.rf_log.specs.Names.{number_of_name, names_with}
 use Rattle.rf_log.specs.Operands.{taken, only, side_of, cut_of, target_in, range_in, place_in}
 use Rattle.rf_log.specs.Reading.{cond_by, conds_in, hint_by, hints_in, roles_in, ban_in, rule_in, line_hint_in, nogood_in, branch_in, up_in, line_by, line_in, target_range_in, no_roles}
 use Rattle.rf_log.specs.LogText.{IsHintBelow, IsCondBelow, IsLineBelow, IsLog, before_ending, is_ending}
-
-if_map : {A B : Type 0} (f : A → B) (P : B → Type 0) (o : Option A) → IfSome o (λ x. P (f x)) → IfSome (option_map f o) P
-if_map f P None h = tt
-if_map f P (Some x) h = h
-
-if_then : {A B : Type 0} (next : A → Option B) (P : A → Type 0) (Q : B → Type 0) (o : Option A) → IfSome o P → ((x : A) → P x → IfSome (next x) Q) → IfSome (option_and_then next o) Q
-if_then next P Q None h k = tt
-if_then next P Q (Some x) h k = k x h
-
-if_any : {A B : Type 0} (next : A → Option B) (Q : B → Type 0) (o : Option A) → ((x : A) → IfSome (next x) Q) → IfSome (option_and_then next o) Q
-if_any next Q None k = tt
-if_any next Q (Some x) k = k x
+use Rattle.rf_base.proofs.OptionLaws.{if_any, if_found, if_map}
 
 if_either : {A : Type 0} (P : A → Type 0) (test : Bool) (yes_value no_value : Option A) → IfSome yes_value P → IfSome no_value P → IfSome (if test then yes_value else no_value) P
 if_either P true x y h k = h
@@ -105,7 +93,7 @@ conds_below zero conds names words h = tt
 conds_below (suc most) conds names [] h = tt
 conds_below (suc most) conds names (word ∷ words) h =
     if_either _ (bytes_eq word (codes ";")) (Some (conds, names, words)) _ (record { below = h; grown = omega arith })
-    (if_then _ (λ r. IsNumbered names r.0.carrier r.1) _ (cond_by word names words) (cond_below word names words) (λ read is.
+    (if_found _ (λ r. IsNumbered names r.0.carrier r.1) _ (cond_by word names words) (cond_below word names words) (λ read is.
     let more : All (IsCondBelow (length read.1)) (conds ++ read.0 ∷ []) =
     All-append (IsCondBelow (length read.1)) conds (read.0 ∷ []) (conds_more (length names) (length read.1) conds is.grown h)
     (All-cons (IsCondBelow (length read.1)) read.0 [] is.known (All-nil (IsCondBelow (length read.1)))) in
@@ -176,7 +164,7 @@ target_below kind role =
 target_range_below : (kind : Kind) (words : List (List ℕ)) → IfSome (target_range_in kind words) (λ r. r.0.0 < roles_of kind)
 target_range_below kind words =
     if_any _ _ (taken number_of words) (λ role.
-    if_then _ (λ target. target < roles_of kind) _ (target_in kind role.0) (target_below kind role.0) (λ target h.
+    if_found _ (λ target. target < roles_of kind) _ (target_in kind role.0) (target_below kind role.0) (λ target h.
     if_any _ _ (range_in role.1) (λ range. h)))
 
 no_role_set : (n : ℕ) → AreSet n 0 no_roles
@@ -185,9 +173,9 @@ no_role_set n = record { known = All-nil (λ c. c < n); rest = refl; full = refl
 rule_below : (names words : List (List ℕ)) → IfSome (rule_in names words) (λ r. AreBelow IsHintBelow names r.0 r.1)
 rule_below names words =
     if_any _ _ (taken kind_of words) (λ kind.
-    if_then _ (λ r. AreBelow (λ n. AreSet n (roles_of kind.0)) names r.0 r.1) _ (roles_in (roles_of kind.0) 0 no_roles names kind.1)
+    if_found _ (λ r. AreBelow (λ n. AreSet n (roles_of kind.0)) names r.0 r.1) _ (roles_in (roles_of kind.0) 0 no_roles names kind.1)
     (roles_below (roles_of kind.0) 0 (roles_of kind.0) no_roles names kind.1 (omega arith) (four_roles kind.0) (no_role_set (length names))) (λ roles is.
-    if_then _ (λ r. r.0.0 < roles_of kind.0) _ (target_range_in kind.0 roles.2) (target_range_below kind.0 roles.2) (λ at h.
+    if_found _ (λ r. r.0.0 < roles_of kind.0) _ (target_range_in kind.0 roles.2) (target_range_below kind.0 roles.2) (λ at h.
     let set_all = is.below in
     record { below = record { known = set_all.known; rest = set_all.rest; place = h; full = set_all.full }; grown = is.grown })))
 
@@ -212,7 +200,7 @@ hints_below : (most : ℕ) (hints : List Hint) (names words : List (List ℕ)) �
 hints_below zero hints names words h = tt
 hints_below (suc most) hints names [] h = record { below = h; grown = omega arith }
 hints_below (suc most) hints names (word ∷ words) h =
-    if_then _ (λ r. AreBelow IsHintBelow names r.0 r.1) _ (hint_by word names words) (hint_below word names words) (λ read is.
+    if_found _ (λ r. AreBelow IsHintBelow names r.0 r.1) _ (hint_by word names words) (hint_below word names words) (λ read is.
     let more : All (IsHintBelow (length read.1)) (hints ++ read.0 ∷ []) =
     All-append (IsHintBelow (length read.1)) hints (read.0 ∷ []) (hints_more (length names) (length read.1) hints is.grown h)
     (All-cons (IsHintBelow (length read.1)) read.0 [] is.below (All-nil (IsHintBelow (length read.1)))) in
@@ -221,8 +209,8 @@ hints_below (suc most) hints names (word ∷ words) h =
 
 nogood_below : (most : ℕ) (names words : List (List ℕ)) → IfSome (nogood_in most names words) (λ r. AreBelow IsLineBelow names r.0 r.1)
 nogood_below most names words =
-    if_then _ (λ r. AreBelow (λ n. All (IsCondBelow n)) names r.0 r.1) _ (conds_in most [] names words) (conds_below most [] names words (All-nil (IsCondBelow (length names)))) (λ conds is.
-    if_then _ (λ r. AreBelow (λ n. All (IsHintBelow n)) conds.1 r.0 r.1) _ (hints_in most [] conds.1 conds.2)
+    if_found _ (λ r. AreBelow (λ n. All (IsCondBelow n)) names r.0 r.1) _ (conds_in most [] names words) (conds_below most [] names words (All-nil (IsCondBelow (length names)))) (λ conds is.
+    if_found _ (λ r. AreBelow (λ n. All (IsHintBelow n)) conds.1 r.0 r.1) _ (hints_in most [] conds.1 conds.2)
     (hints_below most [] conds.1 conds.2 (All-nil (IsHintBelow (length conds.1)))) (λ hints are.
     let grown = is.grown in
     let more = are.grown in

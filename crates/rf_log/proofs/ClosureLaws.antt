@@ -1,21 +1,20 @@
 -- A living box from which nothing more can be removed lies within every round.
-use Rattle.std.proofs.Common.{◌≡◌, ℕ, zero, suc, List, arith, subst}
-use Rattle.std.specs.Prelude.{IsTrue}
+use Rattle.std.proofs.Common.{◌≡◌, ℕ, zero, suc, List, arith, subst, IsTrue}
 use Rattle.rf_terms.specs.declared.kind.Kind.{Kind}
 use Rattle.rf_terms.specs.Kinds.{kinds}
 use Rattle.rf_log.specs.declared.cond.Cond.{Cond}
 use Rattle.rf_log.specs.Case.{Case, is_allowed}
 use Rattle.rf_log.specs.Relations.{Meets, IsStruck, IsLiving, IsSettled, IsWithin, IsSole}
 use Rattle.rf_log.specs.Closure.{Round}
-use Rattle.rf_log.proofs.Instances.{known_role, counts_length}
+use Rattle.rf_log.proofs.CaseLaws.{known_role, counts_length}
 
 -- the one index of a wider box is the one of a narrower box that has any
-sole-narrow : (a b : ℕ → ℕ → Type 0) (c k : ℕ) → IsWithin a b → (j : ℕ) × a c j → IsSole b c k → IsSole a c k
+pub sole-narrow : (a b : ℕ → ℕ → Type 0) (c k : ℕ) → IsWithin a b → (j : ℕ) × a c j → IsSole b c k → IsSole a c k
 sole-narrow a b c k within some sole =
     let same : some.0 ≡ k = sole.1 some.0 (within c some.0 some.1) in
     (subst (λ (j : ℕ). a c j) same some.1, λ j here. sole.1 j (within c j here))
 
-struck-narrow : (case : Case) (among : List Kind) (a b : ℕ → ℕ → Type 0) (c k : ℕ)
+pub struck-narrow : (case : Case) (among : List Kind) (a b : ℕ → ℕ → Type 0) (c k : ℕ)
     → IsWithin a b → IsLiving case a → IsStruck case among b c k → IsStruck case among a c k
 struck-narrow case among a b c k within living struck = record {
   kind = struck.kind;

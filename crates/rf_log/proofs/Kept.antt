@@ -1,9 +1,9 @@
 -- A plan that stands in a box stands in the box after each hint, where no plan stands in the box of an earlier nogood.
-use Rattle.std.proofs.Common.{◌≡◌, ℕ, zero, suc, ◌<◌, ◌==◌, List, [], ◌∷◌, length, Bool, true, false, not, ◌&&◌, ◌||◌, refl, sym, ◌∙◌, ap, subst, arith, ◌⊎◌, inl, inr, slice_index, map, take}
+use Rattle.std.proofs.Common.{◌≡◌, ℕ, ◌<◌, ◌==◌, List, [], ◌∷◌, length, Bool, true, false, not, ◌&&◌, ◌||◌, refl, sym, ◌∙◌, ap, subst, arith, inl, inr, slice_index, map, take}
 use Rattle.std.specs.Prelude.{Option, Some, None, if◌then◌else◌, is_some, nat_lt}
 use Rattle.std.specs.Option.{unwrap_or}
 use Rattle.std.specs.List.{list_all}
-use Rattle.std.proofs.lemmas.Bool.{cases_Bool, cases_lt, and_parts, and_from, not_from_false, not-true, eqb-true, ltb-true, lt-ltb, true≢false}
+use Rattle.std.proofs.lemmas.Bool.{cases_Bool, and_parts, and_from, not_from_false, not-true, eqb-true, ltb-true, lt-ltb, true≢false}
 use Rattle.rf_terms.specs.declared.kind.Kind.{Kind}
 use Rattle.rf_log.specs.declared.cond.Cond.{Cond}
 use Rattle.rf_log.specs.declared.hint.Hint.{Hint}
@@ -11,49 +11,12 @@ use Rattle.rf_log.specs.declared.hint.Hint.TheVariants.{Earlier, Ban, Rule}
 use Rattle.rf_log.specs.declared.line.LogLine.{LogLine}
 use Rattle.rf_terms.specs.Kinds.{roles_of}
 use Rattle.rf_log.specs.Case.{Case, IsPlan, count_of, freq_of, margin_of, is_allowed, is_instance, is_broken, breaks}
-use Rattle.rf_log.specs.Box.{Box, each_below, only_below, between, is_met, is_met_by, box_of, holds_throughout, has_none, only_index, is_dead, without}
-use Rattle.rf_log.proofs.Instances.{known_roles}
+use Rattle.rf_log.specs.Box.{Box, each_below, between, is_met, is_met_by, box_of, holds_throughout, has_none, only_index, is_dead, without}
+use Rattle.rf_log.proofs.CaseLaws.{known_roles}
 use Rattle.rf_log.specs.Hints.{nogood_at, left_open, by_open, by_line, is_barred, indices_with, is_ruled_out, effect, after_hints}
-
-cases_below : (k n : ℕ) → k < suc n → (k < n) ⊎ (k ≡ n)
-cases_below k n low = elim (cases_lt k n) [ inl below ↦ inl below | inr above ↦ inr (omega arith) ]
-
-pub each_below-at : (n : ℕ) (p : ℕ → Bool) (k : ℕ) → each_below n p ≡ true → k < n → p k ≡ true
-each_below-at zero p k all low = absurd (omega arith)
-each_below-at (suc n) p k all low =
-    let parts = and_parts (each_below n p) (p n) all in
-    let last_or = cases_below k n low in
-    elim last_or [ inl below ↦ each_below-at n p k parts.0 below | inr last ↦ subst (λ (j : ℕ). p j ≡ true) (sym last) parts.1 ]
-
-pub each_below-from : (n : ℕ) (p : ℕ → Bool) → ((k : ℕ) → k < n → p k ≡ true) → each_below n p ≡ true
-each_below-from zero p all = refl
-each_below-from (suc n) p all = and_from (each_below n p) (p n) (each_below-from n p (λ k low. all k (omega arith))) (all n (omega arith))
-
-pub some_when : {A : Type 0} (t : Bool) (x y : A) → (if t then Some x else None) ≡ Some y → (t ≡ true) × (x ≡ y)
-some_when true x y e = (refl, cc)
-some_when false x y e = cc
-
-pub only_below-is : (n : ℕ) (p : ℕ → Bool) (k j : ℕ) → only_below n p ≡ Some k → j < n → p j ≡ true → j ≡ k
-only_below-is zero p k j only low here = absurd (omega arith)
-only_below-is (suc n) p k j only low here = elim (cases_Bool (p n)) [
-  | inl at_n ↦
-      let met : (if each_below n (λ i. not (p i)) then Some n else None) ≡ Some k =
-      subst (λ (b : Bool). (if b then (if each_below n (λ i. not (p i)) then Some n else None) else only_below n p) ≡ Some k) at_n only in
-      let parts = some_when _ n k met in
-      let last_or = cases_below j n low in
-      elim last_or [
-        | inl below ↦ absurd (true≢false (sym here ∙ not-true (p j) (each_below-at n (λ i. not (p i)) j parts.0 below)))
-        | inr last ↦ last ∙ parts.1
-      ]
-  | inr not_n ↦
-      let met : only_below n p ≡ Some k =
-      subst (λ (b : Bool). (if b then (if each_below n (λ i. not (p i)) then Some n else None) else only_below n p) ≡ Some k) not_n only in
-      let last_or = cases_below j n low in
-      elim last_or [
-        | inl below ↦ only_below-is n p k j met below here
-        | inr last ↦ absurd (true≢false (sym here ∙ (ap p last ∙ not_n)))
-      ]
-]
+use Rattle.rf_base.proofs.BoolLaws.{implies, implied}
+use Rattle.rf_base.proofs.OptionLaws.{some_when}
+use Rattle.rf_log.proofs.BoxLaws.{each_below-at, each_below-from, only_below-is}
 
 -- the plan's index of each carrier is in the box
 abbrev pub InBox : Box → List ℕ → Type 0
@@ -65,15 +28,6 @@ HoldsNoPlan case conds = (plan : List ℕ) → IsPlan case plan → InBox (box_o
 -- no plan meets all the conditions of a nogood line among the lines
 abbrev pub AreRight : Case → List LogLine → Type 0
 AreRight case lines = (n : ℕ) (conds : List Cond) → nogood_at lines n ≡ Some conds → HoldsNoPlan case conds
-
--- of two tests, the second holds where the first does
-pub implied : (x y : Bool) → (not x || y) ≡ true → x ≡ true → y ≡ true
-implied true y e h = e
-implied false y e h = absurd (true≢false (sym h))
-
-pub implies : (x y : Bool) → (x ≡ true → y ≡ true) → (not x || y) ≡ true
-implies true y f = f refl
-implies false y f = refl
 
 -- the box without something that is not at this place
 spared : (b x y : Bool) → b ≡ true → (x ≡ true → y ≡ false) → (b && not (x && y)) ≡ true

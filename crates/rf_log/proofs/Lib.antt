@@ -1,9 +1,11 @@
-pub mod Instances
-pub mod Kept
-pub mod Ahead
+pub mod BoxLaws
+pub mod CaseLaws
 pub mod ClosureLaws
-pub mod SetLemmas
-pub mod WordLemmas
-pub mod ReadingLemmas
-pub mod BelowLemmas
-pub mod TextLemmas
+pub mod WalkLaws
+mod Ahead
+mod BelowLemmas
+mod Kept
+mod ReadingLemmas
+mod SetLemmas
+mod TextLemmas
+mod WordLemmas

@@ -1,6 +1,5 @@
 -- One condition, hint or role more is read.
-use Rattle.std.proofs.Common.{◌≡◌, ◌+◌, ◌<◌, ℕ, zero, suc, List, [], ◌∷◌, ◌++◌, false, refl, arith, sym, subst, length, Some, None, Result, Err}
-use Rattle.std.specs.Prelude.{codes, slice_set}
+use Rattle.std.proofs.Common.{◌≡◌, ◌+◌, ◌<◌, ℕ, zero, suc, List, [], ◌∷◌, ◌++◌, false, refl, arith, sym, subst, length, Some, None, Result, Err, codes, slice_set}
 use Rattle.std.specs.declared.option.Option.{Option}
 use Rattle.std.specs.Str.{bytes_eq}
 use Rattle.rf_base.specs.Name.{name_of}

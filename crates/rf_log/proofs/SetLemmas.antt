@@ -3,17 +3,16 @@ use Rattle.std.proofs.Common.{◌≡◌, ℕ, zero, suc, ◌+◌, ◌<◌, ◌�
 use Rattle.std.specs.Prelude.{◌==◌, nat_le, nat_lt}
 use Rattle.std.specs.List.{list_all, list_any, range_with_len}
 use Rattle.std.specs.Set.{remove_key}
-use Rattle.std.proofs.lemmas.Bool.{and_parts, false≢true, le-leb, ltb-true}
+use Rattle.std.proofs.lemmas.Bool.{and_parts, false≢true, le-leb, ltb-true, or_parts, not-true, or_right, or_left, and_from}
 use Rattle.std.proofs.lemmas.Bool.Decides.{nat_tests}
 use Rattle.std.proofs.lemmas.List.Folds.{list_any-append}
 use Rattle.std.proofs.lemmas.Map.Made.{length-remove_key}
 use Rattle.rf_log.specs.Case.{are_distinct, has_just, is_among}
 use Rattle.rf_log.specs.Sets.{sublists, sets_that}
 use Rattle.rf_log.specs.Laws.{IsOfSets}
-
-and_true : (a b : Bool) → a ≡ true → b ≡ true → (a && b) ≡ true
-and_true true b h k = k
-and_true false b h k = h
+use Rattle.rf_base.proofs.ListLaws.{any_map, any_never}
+use Rattle.rf_base.proofs.BoolLaws.{or_more}
+use Rattle.rf_log.proofs.CaseLaws.{distinct_range}
 
 -- ---- distinct carriers are no more than those among which they are
 
@@ -27,28 +26,19 @@ left_in : (ys : List ℕ) (c d : ℕ) → is_among ys d ≡ true → (d == c) �
 left_in [] c d h k = h
 left_in (y ∷ ys) c d h k = left_cond (y == c) y c d ys (remove_key (λ x. x == c) ys) refl h k (λ i. left_in ys c d i k)
 
-or_false : (a b : Bool) → (a || b) ≡ false → (a ≡ false) × (b ≡ false)
-or_false false false h = (refl, refl)
-or_false false true h = cc
-or_false true b h = cc
-
 all_left : (cs ys : List ℕ) (c : ℕ) → list_all (is_among ys) cs ≡ true → is_among cs c ≡ false → list_all (is_among (remove_key (λ x. x == c) ys)) cs ≡ true
 all_left [] ys c h k = refl
 all_left (d ∷ ds) ys c h k =
     let here = and_parts (is_among ys d) _ h in
-    let apart = or_false (d == c) _ k in
-    and_true _ _ (left_in ys c d here.0 apart.0) (all_left ds ys c here.1 apart.1)
-
-not_true : (b : Bool) → not b ≡ true → b ≡ false
-not_true false h = refl
-not_true true h = cc
+    let apart = or_parts (d == c) _ k in
+    and_from _ _ (left_in ys c d here.0 apart.0) (all_left ds ys c here.1 apart.1)
 
 pub fits : (xs ys : List ℕ) → are_distinct xs ≡ true → list_all (is_among ys) xs ≡ true → length xs ≤ length ys
 fits [] ys d h = omega arith
 fits (c ∷ cs) ys d h =
     let distinct = and_parts (not (is_among cs c)) _ d in
     let here = and_parts (is_among ys c) _ h in
-    let rest = fits cs (remove_key (λ x. x == c) ys) distinct.1 (all_left cs ys c here.1 (not_true _ distinct.0)) in
+    let rest = fits cs (remove_key (λ x. x == c) ys) distinct.1 (all_left cs ys c here.1 (not-true _ distinct.0)) in
     let less = length-remove_key (λ x. x == c) ys here.0 in
     omega (arith, rest, less)
 
@@ -56,20 +46,20 @@ fits (c ∷ cs) ys d h =
 outside : (b : Bool) (xs ys : List ℕ) (y : ℕ) → is_among xs y ≡ b → are_distinct xs ≡ true → list_all (is_among ys) xs ≡ true → is_among ys y ≡ true → length ys ≤ length xs → b ≡ true
 outside true xs ys y e d h i l = refl
 outside false xs ys y e d h i l =
-    let more = fits (y ∷ xs) ys (and_true _ _ (ap not e) d) (and_true _ _ i h) in
+    let more = fits (y ∷ xs) ys (and_from _ _ (ap not e) d) (and_from _ _ i h) in
     absurd (omega (arith, more, l))
 
 all_from : (zs xs ys : List ℕ) → are_distinct xs ≡ true → list_all (is_among ys) xs ≡ true → length ys ≤ length xs → list_all (is_among ys) zs ≡ true → list_all (is_among xs) zs ≡ true
 all_from [] xs ys d h l k = refl
 all_from (z ∷ zs) xs ys d h l k =
     let here = and_parts (is_among ys z) _ k in
-    and_true _ _ (outside (is_among xs z) xs ys z refl d h here.0 l) (all_from zs xs ys d h l here.1)
+    and_from _ _ (outside (is_among xs z) xs ys z refl d h here.0 l) (all_from zs xs ys d h l here.1)
 
 among_more : (ys zs : List ℕ) (y : ℕ) → list_all (is_among zs) ys ≡ true → list_all (is_among (y ∷ zs)) ys ≡ true
 among_more [] zs y h = refl
 among_more (x ∷ xs) zs y h =
     let here = and_parts (is_among zs x) _ h in
-    and_true _ _ (ap (λ b. (y == x) || b) here.0 ∙ or_true (y == x)) (among_more xs zs y here.1)
+    and_from _ _ (ap (λ b. (y == x) || b) here.0 ∙ or_true (y == x)) (among_more xs zs y here.1)
   where
     or_true : (b : Bool) → (b || true) ≡ true
     or_true true = refl
@@ -79,7 +69,7 @@ all_among : (ys : List ℕ) → list_all (is_among ys) ys ≡ true
 all_among [] = refl
 all_among (y ∷ ys) =
     let self : (y == y) ≡ true = grind (arith, nat_tests) in
-    and_true _ _ (ap (λ b. b || is_among ys y) self) (among_more ys ys y (all_among ys))
+    and_from _ _ (ap (λ b. b || is_among ys y) self) (among_more ys ys y (all_among ys))
 
 pub among_back : (xs ys : List ℕ) → are_distinct xs ≡ true → list_all (is_among ys) xs ≡ true → length ys ≤ length xs → list_all (is_among xs) ys ≡ true
 among_back xs ys d h l = all_from ys xs ys d h l (all_among ys)
@@ -94,23 +84,6 @@ any-filter : {X : Type 0} (p q : X → Bool) (xs : List X) → list_any p (filte
 any-filter p q [] = refl
 any-filter p q (x ∷ xs) = any_cond (q x) (p x) p (filter q xs) x _ refl (any-filter p q xs)
 
-any-map : {X Y : Type 0} (p : Y → Bool) (f : X → Y) (xs : List X) → list_any p (map f xs) ≡ list_any (λ x. p (f x)) xs
-any-map p f [] = refl
-any-map p f (x ∷ xs) = ap (λ b. p (f x) || b) (any-map p f xs)
-
-or_left : (a b : Bool) → a ≡ true → (a || b) ≡ true
-or_left true b h = refl
-or_left false b h = cc
-
-or_right : (a b : Bool) → b ≡ true → (a || b) ≡ true
-or_right true b h = refl
-or_right false b h = h
-
--- what passes in some list is one whose test says so
-any_none : {X : Type 0} (p : X → Bool) (xs : List X) → ((x : X) → p x ≡ false) → list_any p xs ≡ false
-any_none p [] h = refl
-any_none p (x ∷ xs) h = ap (λ b. b || list_any p xs) (h x) ∙ any_none p xs h
-
 -- the elements that pass a test are one of the lists, where they are some and no more than so many
 abbrev Lists : ℕ → (List ℕ → Bool) → List ℕ → List ℕ → Type 0
 Lists most q chosen xs = 1 ≤ length chosen → length chosen ≤ most → q chosen ≡ true → list_any q (sublists most xs) ≡ true
@@ -121,7 +94,7 @@ unfolding sublists
 first_cond q x xs [] most next fit h = or_left _ _ h
 first_cond q x xs (c ∷ cs) most next fit h =
     or_right (q (x ∷ [])) _ (list_any-append q (map (λ s. x ∷ s) (sublists most xs)) (sublists (suc most) xs)
-    ∙ or_left _ _ (any-map q (λ s. x ∷ s) (sublists most xs) ∙ next (omega arith) fit h))
+    ∙ or_left _ _ (any_map q (λ s. x ∷ s) (sublists most xs) ∙ next (omega arith) fit h))
 
 rest_any : (q : List ℕ → Bool) (x : ℕ) (xs : List ℕ) (most : ℕ) → list_any q (sublists (suc most) xs) ≡ true → list_any q (sublists (suc most) (x ∷ xs)) ≡ true
 unfolding sublists
@@ -149,10 +122,6 @@ among_range : (a n c : ℕ) → a ≤ c → c < a + n → is_among (range_with_l
 among_range a zero c low high = absurd (omega (arith, low, high))
 among_range a (suc n) c low high = among_cond (a == c) a n c refl low (λ more. among_range (a + 1) n c more (omega (arith, high)))
 
-same_or : (a b d : Bool) → (a || b) ≡ true → (b ≡ true → d ≡ true) → (a || d) ≡ true
-same_or true b d h k = refl
-same_or false b d h k = k h
-
 other : (a b : Bool) (p : ℕ → Bool) (x c : ℕ) → (x == c) ≡ a → p x ≡ false → p c ≡ true → (a || b) ≡ true → b ≡ true
 other true b p x c same fails pass h =
     let e : x ≡ c = grind (arith, nat_tests, same) in
@@ -161,7 +130,7 @@ other false b p x c same fails pass h = h
 
 kept_cond : (b : Bool) (p : ℕ → Bool) (x c : ℕ) (xs : List ℕ) → p x ≡ b → p c ≡ true → (x == c || is_among xs c) ≡ true
     → (is_among xs c ≡ true → is_among (filter p xs) c ≡ true) → is_among (cond b (x ∷ filter p xs) (filter p xs)) c ≡ true
-kept_cond true p x c xs e pass h next = same_or (x == c) (is_among xs c) _ h next
+kept_cond true p x c xs e pass h next = or_more (x == c) (is_among xs c) _ h next
 kept_cond false p x c xs e pass h next = next (other (x == c) (is_among xs c) p x c refl e pass h)
 
 -- what is among a list and passes is among those that pass
@@ -174,37 +143,21 @@ all_kept [] xs p pass h = refl
 all_kept (c ∷ cs) xs p pass h =
     let now = and_parts (p c) _ pass in
     let here = and_parts (is_among xs c) _ h in
-    and_true _ _ (kept_among p xs c now.0 here.0) (all_kept cs xs p now.1 here.1)
+    and_from _ _ (kept_among p xs c now.0 here.0) (all_kept cs xs p now.1 here.1)
 
 all_in_range : (carriers : List ℕ) (count : ℕ) → list_all (λ c. nat_lt c count) carriers ≡ true → list_all (is_among (range_with_len 0 count)) carriers ≡ true
 all_in_range [] count h = refl
 all_in_range (c ∷ cs) count h =
     let here = and_parts (nat_lt c count) _ h in
-    and_true _ _ (among_range 0 count c (omega arith) (omega (arith, ltb-true _ _ here.0))) (all_in_range cs count here.1)
+    and_from _ _ (among_range 0 count c (omega arith) (omega (arith, ltb-true _ _ here.0))) (all_in_range cs count here.1)
 
 pass_cond : (b : Bool) (p : ℕ → Bool) (x : ℕ) (xs : List ℕ) → p x ≡ b → list_all p xs ≡ true → list_all p (cond b (x ∷ xs) xs) ≡ true
-pass_cond true p x xs e h = and_true _ _ e h
+pass_cond true p x xs e h = and_from _ _ e h
 pass_cond false p x xs e h = h
 
 all_pass : (p : ℕ → Bool) (xs : List ℕ) → list_all p (filter p xs) ≡ true
 all_pass p [] = refl
 all_pass p (x ∷ xs) = pass_cond (p x) p x (filter p xs) refl (all_pass p xs)
-
-absent_cond : (b : Bool) (a c : ℕ) (xs : List ℕ) → c < a → is_among xs c ≡ false → is_among (cond b (a ∷ xs) xs) c ≡ false
-absent_cond true a c xs low h = grind (arith, nat_tests, low, h)
-absent_cond false a c xs low h = h
-
-absent_below : (p : ℕ → Bool) (a n c : ℕ) → c < a → is_among (filter p (range_with_len a n)) c ≡ false
-absent_below p a zero c low = refl
-absent_below p a (suc n) c low = absent_cond (p a) a c (filter p (range_with_len (a + 1) n)) low (absent_below p (a + 1) n c (omega (arith, low)))
-
-distinct_cond : (b : Bool) (a : ℕ) (xs : List ℕ) → is_among xs a ≡ false → are_distinct xs ≡ true → are_distinct (cond b (a ∷ xs) xs) ≡ true
-distinct_cond true a xs h d = and_true _ _ (ap not h) d
-distinct_cond false a xs h d = d
-
-distinct_range : (p : ℕ → Bool) (a n : ℕ) → are_distinct (filter p (range_with_len a n)) ≡ true
-distinct_range p a zero = refl
-distinct_range p a (suc n) = distinct_cond (p a) a _ (absent_below p (a + 1) n a (omega arith)) (distinct_range p (a + 1) n)
 
 -- ---- the law
 
@@ -226,7 +179,7 @@ sets_cond : (b : Bool) (test : List ℕ → Bool) (count : ℕ) (carriers : List
     → list_all (λ c. nat_lt c count) carriers ≡ true → are_distinct carriers ≡ true → 2 ≤ length carriers → length carriers ≤ 4
     → list_any (is_wanted test carriers) (sublists 4 (range_with_len 0 count)) ≡ b
 sets_cond false test count carriers e of known distinct some few =
-    any_none (is_wanted test carriers) (sublists 4 (range_with_len 0 count)) (λ set. wanted_passes test carriers set (is_wanted test carriers set) of distinct e refl)
+    any_never (is_wanted test carriers) (sublists 4 (range_with_len 0 count)) (λ set. wanted_passes test carriers set (is_wanted test carriers set) of distinct e refl)
 sets_cond true test count carriers e of known distinct some few =
     let all = range_with_len 0 count in
     let chosen = filter (is_among carriers) all in
@@ -237,7 +190,7 @@ sets_cond true test count carriers e of known distinct some few =
     let many : length chosen ≡ length carriers = omega (arith, less, more) in
     let same : (length chosen == length carriers) ≡ true = grind (arith, nat_tests, many) in
     chosen_listed (is_among carriers) all 4 (is_wanted test carriers) (omega (arith, some, more)) (omega (arith, few, less))
-    (and_true _ _ (and_true _ _ (le-leb _ _ (omega (arith, some, more))) (of.same chosen carriers many into back ∙ e)) (and_true _ _ same back))
+    (and_from _ _ (and_from _ _ (le-leb _ _ (omega (arith, some, more))) (of.same chosen carriers many into back ∙ e)) (and_from _ _ same back))
 
 pub sets_tested : (test : List ℕ → Bool) (count : ℕ) (carriers : List ℕ) → IsOfSets test
     → list_all (λ c. nat_lt c count) carriers ≡ true → are_distinct carriers ≡ true → 2 ≤ length carriers → length carriers ≤ 4

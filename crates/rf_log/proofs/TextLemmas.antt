@@ -1,6 +1,5 @@
 -- What is written one after another.
-use Rattle.std.specs.Prelude.{codes}
-use Rattle.std.proofs.Common.{◌≡◌, ◌++◌, ℕ, List, [], ◌∷◌, append_assoc}
+use Rattle.std.proofs.Common.{◌≡◌, ◌++◌, ℕ, List, [], ◌∷◌, append_assoc, codes}
 use Rattle.std.proofs.lemmas.List.Concat.{flat_map-append}
 
 pub ruleset pieces = (flat_map-append, append_assoc)

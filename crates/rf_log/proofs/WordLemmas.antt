@@ -1,18 +1,8 @@
 -- Where the first word of a line and the first line of a text end.
 use Rattle.std.proofs.Common.{◌≡◌, ◌+◌, ◌<◌, ◌≤◌, ℕ, suc, List, [], ◌∷◌, Bool, true, false, length, take, drop, arith, refl, Some, None}
 use Rattle.std.proofs.lemmas.Bool.Decides.{nat_tests}
-use Rattle.std.proofs.lemmas.List.Splits.{slice_split_first, slice_split-cons_no}
-use Rattle.std.specs.List.{slice_split, position, position_or_len}
+use Rattle.std.specs.List.{position, position_or_len}
 use Rattle.rf_log.specs.Words.{is_feed, lines_in}
-
--- the first part ends before the place of the first element that passes
-pub first_part : (p : ℕ → Bool) (xs : List ℕ) (i : ℕ) → position p xs ≡ Some i → slice_split p xs ≡ take i xs ∷ slice_split p (drop (i + 1) xs)
-first_part p xs i h = grind (arith, nat_tests, slice_split_first p xs 0)
-
--- where no element passes, all is one part
-pub only_part : (p : ℕ → Bool) (xs : List ℕ) → position p xs ≡ None → slice_split p xs ≡ xs ∷ []
-only_part p [] h = refl
-only_part p (x ∷ xs) h = grind (arith, nat_tests, only_part p xs, slice_split-cons_no p)
 
 -- the first feed stands there
 at_first : (xs : List ℕ) → position_or_len is_feed xs < length xs → lines_in xs ≡ take (position_or_len is_feed xs) xs ∷ lines_in (drop (suc (position_or_len is_feed xs)) xs)

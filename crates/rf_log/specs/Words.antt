@@ -2,9 +2,7 @@
 use Rattle.std.specs.Prelude.{ℕ, Bool, List, [], ◌∷◌, ◌==◌, Option, Some, None, if◌then◌else◌, position}
 use Rattle.std.specs.List.{slice_split}
 use denote.Ref.{Bor}
-
-abbrev pub is_space : ℕ → Bool
-is_space byte = byte == 32
+use Rattle.rf_base.specs.Words.{is_space}
 
 abbrev pub is_feed : ℕ → Bool
 is_feed byte = byte == 10
@@ -17,9 +15,6 @@ words_in line = slice_split is_space line
 abbrev pub words_left : Option (Bor (List ℕ)) → List (List ℕ)
 words_left None = []
 words_left (Some rest) = words_in rest.now
-
-abbrev pub space_of : List ℕ → Option ℕ
-space_of line = position is_space line
 
 abbrev pub feed_of : List ℕ → Option ℕ
 feed_of bytes = position is_feed bytes

@@ -3,6 +3,7 @@
 ghost use Rattle.std.specs.Prelude.{◌≡◌, ◌∷◌, [], MatchOption, option_map};
 ghost use Rattle.rf_log.specs.Operands as operand;
 ghost use Rattle.rf_log.specs.Words as spec;
+ghost use Rattle.rf_base.specs.Words.{is_space, space_of};
 
 use crate::operand::Operand;
 use std::marker::Model;
@@ -70,7 +71,7 @@ fn first_part(line: &[u8]) -> (&[u8], Option<&[u8]>)
 
 // Where the first space stands.
 fn space_of(line: &[u8]) -> Option<usize>
-    ensures { result ≡ spec.space_of line.now }
+    ensures { result ≡ space_of line.now }
 {
     line.iter().position(|byte| *byte == b' ')
 }

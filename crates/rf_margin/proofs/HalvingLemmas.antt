@@ -109,8 +109,3 @@ goes-on {S} {asked} {show} {n} {first} {mid} {last} {held} {next} u room made tu
       fit = fits-half _ _ m turn.1 fit;
       sum = omega (arith, sum);
     }
-
--- one call before these
-pub one-before : {S : Type 0} {asked : S → ShowData → S → Type 0} {first mid last : S} {n : ℕ} (show : ShowData) → asked first show mid → Calls asked n mid last → Calls asked (suc n) first last
-one-before {S} {asked} {first} {mid} {last} {n} show once no_call = and_call no_call once
-one-before {S} {asked} {first} {mid} {last} {n} show once (and_call calls again) = and_call (one-before show once calls) again

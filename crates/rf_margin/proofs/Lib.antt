@@ -1,3 +1,3 @@
-pub mod HalvingLemmas
-pub mod EnoughLemmas
-pub mod Replies
+mod EnoughLemmas
+mod HalvingLemmas
+mod Replies

@@ -1,3 +1,3 @@
-pub mod RemovalLemmas
-pub mod WatchLemmas
-pub mod SweepLemmas
+pub mod SweepLaws
+mod RemovalLemmas
+mod WatchLemmas

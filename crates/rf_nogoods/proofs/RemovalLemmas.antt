@@ -1,9 +1,8 @@
 -- What a line takes out has a reason, and leaves it blocked.
-use Rattle.std.proofs.Common.{◌≡◌, ℕ, zero, suc, ◌+◌, ◌-◌, ◌<◌, ◌≤◌, ◌==◌, List, [], ◌∷◌, Bool, true, false, not, ◌&&◌, length, refl, sym, ◌∙◌, ap, subst, arith, inl, inr}
+use Rattle.std.proofs.Common.{◌≡◌, ℕ, zero, suc, ◌+◌, ◌-◌, ◌<◌, ◌≤◌, List, [], ◌∷◌, true, false, not, length, refl, sym, ◌∙◌, ap, subst, arith}
 use Rattle.std.specs.Prelude.{Result, Ok, Err, OnOk, OnErr, Some, slice_index_or}
-use Rattle.std.proofs.Math.Path.{fun_ext}
 use Rattle.std.proofs.lemmas.List.{length-map}
-use Rattle.std.proofs.lemmas.Bool.{cases_Bool, cases_lt, cases_eq, and_parts, and_from, true≢false, eqb-true}
+use Rattle.std.proofs.lemmas.Bool.{true≢false}
 use Rattle.rf_log.specs.declared.cond.Cond.{Cond}
 use Rattle.rf_log.specs.declared.hint.Hint.TheVariants.{Earlier}
 use Rattle.rf_log.specs.Box.{Box, between, is_met, without, nothing}
@@ -11,15 +10,16 @@ use Rattle.rf_log.specs.Case.{Case, counts_of}
 use Rattle.rf_log.specs.Hints.{Line, line_at, by_open, by_line}
 use Rattle.rf_log.specs.Relations.{members, HasNone}
 use Rattle.rf_domain.specs.Sets as sets
-use Rattle.rf_domain.specs.Sets.{size_of, has}
+use Rattle.rf_domain.specs.Sets.{size_of}
 use Rattle.rf_trail.specs.declared.entry.Entry.{Entry}
 use Rattle.rf_trail.specs.Trace.{Trace, has_of, box_of}
-use Rattle.rf_trail.proofs.TraceLemmas.{has_size}
+use Rattle.rf_trail.proofs.TraceLaws.{has_size}
 use Rattle.rf_propagate.specs.Laws.{Extends, same, more, IsJustified, two, one}
 use Rattle.rf_propagate.specs.Openings.{Holds, IsUnmet, HoldFrom, IsNextOpen, IsOneOpen}
 use Rattle.rf_nogoods.specs.Removals.{IsPart, IsTaken, IsDone, entry_by}
-use Rattle.rf_propagate.proofs.LineLemmas.{size_is, none_open, one_open, without_gone}
-use Rattle.rf_propagate.proofs.OpeningLemmas.{same_at, inside_is, outside_is, is_between, below_is, above_is, ends_of}
+use Rattle.rf_propagate.proofs.LineLaws.{size_is, none_open, one_open, without_gone}
+use Rattle.rf_propagate.proofs.OpeningLaws.{same_at, inside_is, outside_is, below_is, ends_of}
+use Rattle.rf_domain.proofs.RangeLaws.{past_range, in_range}
 
 -- ---- the reasons
 
@@ -82,29 +82,6 @@ extends_by old new e (Ok x) is none case lines why =
 extends_by old new e (Err x) none is case lines why =
     subst (λ (es : List Entry). Extends case lines old.entries es) (sym (ap (λ t. t.entries) is)) same
 
-idle : (b : Box) (c : ℕ) (gone : ℕ → Bool) → ((k : ℕ) → gone k ≡ true → b c k ≡ false) → b ≡ sets.without b c gone
-idle b c gone none = fun_ext λ d. fun_ext λ k. elim (cases_Bool (gone k)) [
-  | inr stays ↦ sym (ap (λ (t : Bool). b d k && not ((d == c) && t)) stays ∙ kept (b d k) (d == c))
-  | inl goes ↦ elim (cases_eq d c) [
-    | inl at ↦
-        let away : b d k ≡ false = ap (λ x. b x k) at ∙ none k goes in
-        away ∙ sym (ap (λ (t : Bool). t && not ((d == c) && gone k)) away)
-    | inr other ↦ sym (elsewhere (b d k) (d == c) (gone k) (ne d c other))
-  ]
-]
-  where
-    kept : (t s : Bool) → (t && not (s && false)) ≡ t
-    kept true true = refl
-    kept true false = refl
-    kept false s = refl
-
-    elsewhere : (t s g : Bool) → s ≡ false → (t && not (s && g)) ≡ t
-    elsewhere true s g e = ap (λ (x : Bool). not (x && g)) e
-    elsewhere false s g e = refl
-
-    ne : (d c : ℕ) → (d ≡ c → ⊥) → (d == c) ≡ false
-    ne d c other = elim (cases_Bool (d == c)) [ inl at ↦ absurd (other (eqb-true d c at)) | inr away ↦ away ]
-
 pub carrier_in : (counts : List ℕ) (c k : ℕ) → k < size_of counts c → c < length counts
 carrier_in [] c k low = absurd (omega arith)
 carrier_in (n ∷ ns) zero k low = omega arith
@@ -113,14 +90,14 @@ carrier_in (n ∷ ns) (suc c) k low = omega (arith, carrier_in ns c k low)
 -- ---- what is left
 
 pub struck_gone : (b new : Box) (c lo hi : ℕ) → new ≡ sets.without b c (between lo hi) → (k : ℕ) → lo ≤ k → k ≤ hi → new c k ≡ false
-struck_gone b new c lo hi is k from to = ap (λ (f : Box). f c k) is ∙ without_gone b c (between lo hi) k (is_between lo hi k from to)
+struck_gone b new c lo hi is k from to = ap (λ (f : Box). f c k) is ∙ without_gone b c (between lo hi) k (in_range lo hi k from to)
 
 -- the ranges that a condition asks
 pub met_below : (cond : Cond) → cond.inside ≡ false → (k : ℕ) → between 0 (cond.lo - 1) k ≡ true → (cond.lo ≡ 0 → ⊥) → is_met cond k ≡ true
 met_below cond out k within some = outside_is cond k out ∙ ap not (below_is cond.lo cond.hi k (let ends = ends_of 0 (cond.lo - 1) k within in omega (arith, ends.1, some)))
 
 pub met_above : (cond : Cond) (last : ℕ) → cond.inside ≡ false → (k : ℕ) → between (cond.hi + 1) last k ≡ true → is_met cond k ≡ true
-met_above cond last out k within = outside_is cond k out ∙ ap not (above_is cond.lo cond.hi k (let ends = ends_of (cond.hi + 1) last k within in omega (arith, ends.0)))
+met_above cond last out k within = outside_is cond k out ∙ ap not (past_range cond.lo cond.hi k (let ends = ends_of (cond.hi + 1) last k within in omega (arith, ends.0)))
 
 pub met_inside : (cond : Cond) → cond.inside ≡ true → (k : ℕ) → between cond.lo cond.hi k ≡ true → is_met cond k ≡ true
 met_inside cond in_ k within = inside_is cond k in_ ∙ within

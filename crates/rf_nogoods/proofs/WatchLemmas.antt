@@ -1,6 +1,5 @@
 -- Two conditions whose watches are left do not hold throughout.
-use Rattle.std.proofs.Common.{◌≡◌, ℕ, ◌<◌, List, Bool, true, length, sym, ◌∙◌, ap, subst, arith}
-use Rattle.std.specs.Prelude.{slice_index_or}
+use Rattle.std.proofs.Common.{◌≡◌, ℕ, ◌<◌, List, Bool, true, length, sym, ◌∙◌, ap, subst, arith, slice_index_or}
 use Rattle.std.proofs.lemmas.List.{length-map}
 use Rattle.rf_log.specs.declared.cond.Cond.{Cond}
 use Rattle.rf_log.specs.Box.{Box}
@@ -8,7 +7,7 @@ use Rattle.rf_log.specs.Case.{Case}
 use Rattle.rf_log.specs.Relations.{members}
 use Rattle.rf_domain.specs.Sets.{has, sizes}
 use Rattle.rf_propagate.specs.Openings.{AllFit, IsUnmet}
-use Rattle.rf_propagate.proofs.OpeningLemmas.{same_at}
+use Rattle.rf_propagate.proofs.OpeningLaws.{same_at}
 use Rattle.rf_nogoods.specs.declared.watch.Watch.{Watch}
 use Rattle.rf_nogoods.specs.declared.watch.Watches.{Watches}
 use Rattle.rf_nogoods.specs.Removals.{IsDone}

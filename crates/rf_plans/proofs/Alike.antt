@@ -1,6 +1,5 @@
 -- A show that differs from another only in where its carriers stand.
-use Rattle.std.proofs.Common.{◌≡◌, ◌∙◌, ℕ, zero, suc, Bool, false, ◌&&◌, ◌||◌, List, [], ◌∷◌, find, map, max, refl, ap, Some}
-use Rattle.std.specs.Prelude.{◌-◌, ◌==◌, nat_lt, slice_get, slice_index}
+use Rattle.std.proofs.Common.{◌≡◌, ◌∙◌, ℕ, zero, suc, Bool, false, ◌&&◌, ◌||◌, List, [], ◌∷◌, find, map, max, refl, ap, Some, ◌-◌, ◌==◌, nat_lt, slice_get, slice_index}
 use Rattle.std.specs.declared.option.Option.{Option}
 use Rattle.std.specs.List.{list_all, list_any}
 use Rattle.std.specs.Option.{option_and_then, option_map_or}
@@ -12,7 +11,7 @@ use Rattle.rf_profiles.specs.Channels.{channels}
 use Rattle.rf_profiles.specs.Profile as profile
 use Rattle.rf_profiles.specs.declared.profile.Profile.{Profile}
 use Rattle.rf_zones.specs.Slices.{share_minute}
-use Rattle.rf_show.proofs.PlaceLemmas.{map-placed}
+use Rattle.rf_show.proofs.PlaceLaws.{map-placed}
 use Rattle.rf_show.specs.After.{placed}
 use Rattle.rf_show.specs.Query.{are_joined, asked, bans_touch, half_of, is_banned, is_channel, margin_of, meet, meet_at, profile_of, scans_touch}
 use Rattle.rf_show.specs.Show.{ShowData, is_profile}

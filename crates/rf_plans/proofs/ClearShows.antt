@@ -7,7 +7,7 @@ use Rattle.std.specs.Option.{option_and_then, option_map_or}
 use Rattle.std.proofs.Math.Path.{fun_ext}
 use Rattle.std.proofs.lemmas.Bool.{and_parts, eq-eqb}
 use Rattle.std.proofs.lemmas.List.{ext_get_or, length-map}
-use Rattle.std.proofs.lemmas.List.Folds.{list_any_at, list_any_none}
+use Rattle.std.proofs.lemmas.List.Folds.{list_any_at}
 use Rattle.std.proofs.lemmas.Option.{get_or_from_slice_get, slice_get_within}
 use Rattle.rf_terms.specs.Kinds.{kinds, roles_of}
 use Rattle.rf_terms.specs.declared.kind.Kind.{Kind}
@@ -22,8 +22,8 @@ use Rattle.rf_rules.specs.Instances.{at_in, ats_of, is_broken}
 use Rattle.rf_rules.specs.Plans.{IsPlan, planned}
 use Rattle.rf_rules.specs.Tuples.{tuples, upto}
 use Rattle.rf_rules.specs.declared.conflict.Conflict.TheVariants.{Banned, OffGrid}
-use Rattle.rf_rules.proofs.PlanLemmas.{broken-none}
-use Rattle.rf_rules.proofs.TupleLemmas.{get_or-upto, length-upto}
+use Rattle.rf_rules.proofs.PlanLaws.{broken-none}
+use Rattle.rf_rules.proofs.TupleLaws.{any-none}
 use Rattle.rf_plans.specs.Clear.{IsClear, StandOn}
 use Rattle.rf_plans.proofs.Alike.{Alike, broken_alike}
 use Rattle.rf_plans.proofs.Planned.{length_planned, planned_at}
@@ -37,12 +37,6 @@ left false x some rest h more = more h
 none_left : {X : Type 0} (test : X → Bool) (xs : List X) → list_any test xs ≡ false → filter test xs ≡ []
 none_left test [] h = refl
 none_left test (x ∷ xs) h = left (test x) x (list_any test xs) (filter test xs) h (none_left test xs)
-
-none_upto : (test : ℕ → Bool) (n : ℕ) → ((i : ℕ) → i < n → test i ≡ false) → list_any test (upto n) ≡ false
-none_upto test n h =
-    list_any_none test (upto n) (λ k d inside.
-    let low : k < n = omega (arith, inside, length-upto n) in
-    ap test (get_or-upto n k d low) ∙ h k low)
 
 nothing_of : {X Y : Type 0} (f : X → List Y) (xs : List X) → ((x : X) → f x ≡ []) → flat_map f xs ≡ []
 nothing_of f [] h = refl
@@ -82,14 +76,14 @@ module _ (old new : ShowData) (plan : List ℕ) (alike : Alike old new) (is : Is
   none_off : off_grid new ≡ []
   none_off =
       ap (map OffGrid) (none_left (λ c. is_off_grid new c (at_in (ats_of new) c)) (upto (length new.carriers))
-      (none_upto (λ c. is_off_grid new c (at_in (ats_of new) c)) (length new.carriers) (λ c low.
+      (any-none (λ c. is_off_grid new c (at_in (ats_of new) c)) (length new.carriers) (λ c low.
       ap (λ (there : ℕ → Bool). option_map_or (λ f. not (there f)) (at_in (ats_of new) c) false) (fun_ext (λ f. alike.channel c f))
       ∙ ap (λ at. is_off_grid old c at) (stands c low) ∙ on_grid (profile_of old c) (slice_index plan c))))
 
   none_banned : banned_carriers new ≡ []
   none_banned =
       ap (map Banned) (none_left (λ c. stands_banned new c (at_in (ats_of new) c)) (upto (length new.carriers))
-      (none_upto (λ c. stands_banned new c (at_in (ats_of new) c)) (length new.carriers) (λ c low.
+      (any-none (λ c. stands_banned new c (at_in (ats_of new) c)) (length new.carriers) (λ c low.
       ap (λ (ban : ℕ → Bool). option_map_or (λ f. ban f) (at_in (ats_of new) c) false) (fun_ext (λ f. alike.banned c f))
       ∙ ap (λ at. stands_banned old c at) (stands c low)
       ∙ no_ban (channel_of old c (slice_index plan c)) (λ f. is_banned old c f) (λ f. may_stand_at old c f) (is.allowed c (omega (arith, low, many))))))

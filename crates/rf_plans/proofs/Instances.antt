@@ -1,10 +1,7 @@
 -- An instance of a show is one of its case.
-use Rattle.std.proofs.Common.{◌≡◌, ◌<◌, ◌∙◌, ℕ, Bool, true, false, ◌&&◌, not, List, [], ◌∷◌, length, arith, refl, ap, sym, Some, None}
-use Rattle.std.specs.Prelude.{All, ◌==◌, nat_lt}
+use Rattle.std.proofs.Common.{◌≡◌, ◌<◌, ◌∙◌, ℕ, Bool, true, false, ◌&&◌, not, List, [], ◌∷◌, length, arith, refl, ap, sym, Some, None, All, ◌==◌, nat_lt, eq-eqb, lt-ltb}
 use Rattle.std.specs.declared.option.Option.{Option}
 use Rattle.std.specs.List.{list_all, list_any}
-use Rattle.std.proofs.lemmas.Bool.{eq-eqb}
-use Rattle.std.proofs.lemmas.Bool.Decides.{nat_tests}
 use Rattle.std.proofs.lemmas.List.Sums.{list_all-from_AllPass}
 use Rattle.rf_terms.proofs.KindLaws.{four_roles, two_roles}
 use Rattle.rf_terms.specs.Kinds.{order_of, roles_of}
@@ -24,9 +21,6 @@ order_same : (o : Option (ℕ × ℕ)) (t : List ℕ) → stands_in_order o t �
 order_same None t = refl
 order_same (Some p) t = refl
 
-below : (a b : ℕ) → a < b → nat_lt a b ≡ true
-below a b h = grind (arith, nat_tests)
-
 -- carriers that are not distinct are no instance of either
 tested : (distinct order joined together : Bool) → (distinct ≡ true → together ≡ joined) → (distinct && order && joined) ≡ (true && true && distinct && order && together)
 tested true order joined together h = ap (λ b. order && b) (sym (h refl))
@@ -39,7 +33,7 @@ instance_same show agree kind roles n low =
     let count : (length roles == roles_of kind) ≡ true = eq-eqb _ _ n in
     let carriers = agree.carriers in
     let known : list_all (λ c. nat_lt c (length (case_of show).carriers)) roles ≡ true =
-    rw carriers (list_all-from_AllPass (λ c. nat_lt c (length show.carriers)) roles (λ k d inside. below _ _ (low k d inside))) in
+    rw carriers (list_all-from_AllPass (λ c. nat_lt c (length show.carriers)) roles (λ k d inside. lt-ltb _ _ (low k d inside))) in
     let together : are_distinct roles ≡ true → are_together (case_of show) roles ≡ are_joined show (roles_of kind) roles =
     λ h. agree.together roles low h (omega (arith, n, two_roles kind)) (omega (arith, n, four_roles kind)) ∙ ap (λ size. are_joined show size roles) n in
     ap (λ b. b && stands_in_order (order_of kind) roles && are_joined show (roles_of kind) roles) (distinct_same roles)

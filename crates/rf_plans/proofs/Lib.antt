@@ -1,5 +1,5 @@
-pub mod Alike
-pub mod ClearShows
-pub mod Instances
-pub mod Placed
-pub mod Planned
+mod Alike
+mod ClearShows
+mod Instances
+mod Placed
+mod Planned

@@ -1,12 +1,11 @@
 -- A show in which a plan was placed.
-use Rattle.std.proofs.Common.{◌≡◌, ◌<◌, ◌∙◌, ℕ, true, List, [], ◌∷◌, length, map, arith, refl, ap, sym, subst, Some, None, Ok}
-use Rattle.std.specs.Prelude.{is_some, slice_index, unwrap_or}
+use Rattle.std.proofs.Common.{◌≡◌, ◌<◌, ◌∙◌, ℕ, true, List, [], ◌∷◌, length, map, arith, refl, ap, sym, subst, Some, None, Ok, is_some, slice_index, unwrap_or, ext_get_or}
 use Rattle.std.specs.declared.option.Option.{Option}
-use Rattle.std.proofs.lemmas.List.{ext_get_or, get_or-map, length-map}
+use Rattle.std.proofs.lemmas.List.{get_or-map, length-map}
 use Rattle.std.proofs.lemmas.List.FromFn.{get_or-map-range_with_len, length-map-range_with_len}
 use Rattle.rf_log.specs.Case as case
 use Rattle.rf_log.specs.Case.{freq_of}
-use Rattle.rf_show.proofs.PlaceLemmas.{length-placed}
+use Rattle.rf_show.proofs.PlaceLaws.{length-placed}
 use Rattle.rf_show.specs.After.{after, after_unless, placed, refusal}
 use Rattle.rf_show.specs.Case.{Agree, case_of}
 use Rattle.rf_show.specs.Query.{channel_of}

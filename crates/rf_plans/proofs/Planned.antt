@@ -22,7 +22,7 @@ use Rattle.rf_show.specs.Show.{ShowData}
 use Rattle.rf_rules.specs.Instances.{are_assigned, at_in, distance_of, is_broken, is_candidate, is_instance, khz_in}
 use Rattle.rf_rules.specs.Plans.{IsPlan, planned}
 use Rattle.rf_rules.specs.Tuples.{upto}
-use Rattle.rf_rules.proofs.TupleLemmas.{get_or-upto, length-upto}
+use Rattle.rf_rules.proofs.TupleLaws.{get_or-upto, length-upto}
 use Rattle.rf_plans.proofs.Instances.{instance_same}
 
 -- ---- the frequencies of a plan

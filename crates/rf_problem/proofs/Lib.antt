@@ -1,4 +1,4 @@
-pub mod CaseLemmas
-pub mod SetLemmas
-pub mod TogetherLemmas
-pub mod MemberLemmas
+pub mod CaseLaws
+mod MemberLemmas
+mod SetLemmas
+mod TogetherLemmas

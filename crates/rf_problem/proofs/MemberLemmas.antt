@@ -1,17 +1,15 @@
 -- The carriers of a mask.
-use Rattle.std.proofs.Common.{◌≡◌, ℕ, zero, suc, ◌+◌, ◌<◌, ◌≤◌, List, [], ◌∷◌, ◌++◌, Bool, true, false, ◌&&◌, length, take, refl, sym, ◌∙◌, ap, inl, inr, set, arith, length-append}
-use Rattle.std.specs.Prelude.{All, ◌-◌}
+use Rattle.std.proofs.Common.{◌≡◌, ℕ, zero, suc, ◌+◌, ◌<◌, ◌≤◌, List, [], ◌∷◌, ◌++◌, true, false, length, take, refl, sym, ◌∙◌, ap, set, arith, length-append, All, ◌-◌, append-nil}
 use Rattle.std.specs.List.{filter, range_with_len}
-use Rattle.std.proofs.lemmas.Bool.{cases_Bool}
 use Rattle.std.proofs.lemmas.Bool.Decides.{nat_tests}
-use Rattle.std.proofs.lemmas.List.{take_more_set, append-nil}
+use Rattle.std.proofs.lemmas.List.{take_more_set}
 use Rattle.std.proofs.Math.ListN.{length-set}
 use Rattle.std.proofs.lemmas.List.FromFn.{length-range_with_len, get_or-range_with_len}
 use Rattle.std.proofs.lemmas.List.Elements.{filter-append, All-filter}
 use Rattle.rf_zones.specs.Masks.{has_bit}
 use Rattle.rf_log.specs.Case.{is_among, are_distinct}
 use Rattle.rf_problem.specs.Problem.{members_of}
-use Rattle.rf_problem.proofs.SetLemmas.{among_filter}
+use Rattle.rf_log.proofs.CaseLaws.{distinct_range}
 
 range_split : (a m n b k : ℕ) → b ≡ a + m → k ≡ m + n → range_with_len a k ≡ range_with_len a m ++ range_with_len b n
 range_split a zero n b k from all =
@@ -41,17 +39,6 @@ members_fewer mask c n below =
 no_earlier : (a b n : ℕ) → a < b → is_among (range_with_len b n) a ≡ false
 no_earlier a b zero before = refl
 no_earlier a b (suc n) before = let rest : is_among (range_with_len (b + 1) n) a ≡ false = no_earlier a (b + 1) n (omega arith) in grind (arith, nat_tests)
-
-distinct_range : (q : ℕ → Bool) (a n : ℕ) → are_distinct (filter q (range_with_len a n)) ≡ true
-distinct_range q a zero = refl
-distinct_range q a (suc n) =
-    let rest : are_distinct (filter q (range_with_len (a + 1) n)) ≡ true = distinct_range q (a + 1) n in
-    elim (cases_Bool (q a)) [
-      | inl e ↦
-          let new : is_among (filter q (range_with_len (a + 1) n)) a ≡ false = among_filter q (range_with_len (a + 1) n) a ∙ ap (λ b. b && q a) (no_earlier a (a + 1) n (omega arith)) in
-          rw (e, new, rest)
-      | inr e ↦ rw (e, rest)
-    ]
 
 below_range : (a n : ℕ) → All (λ c. c < a + n) (range_with_len a n)
 below_range a n k d known =

@@ -1,22 +1,10 @@
 -- Sets of numbers as lists.
-use Rattle.std.proofs.Common.{◌≡◌, ℕ, List, [], ◌∷◌, Bool, true, false, ◌&&◌, refl, sym, ap, inl, inr, arith}
+use Rattle.std.proofs.Common.{◌≡◌, ℕ, List, [], ◌∷◌, Bool, true, ◌&&◌, refl, ap, inl, inr, arith}
 use Rattle.std.specs.List.{list_all, list_any, filter}
 use Rattle.std.proofs.lemmas.Bool.{cases_Bool, cases_eq}
 use Rattle.std.proofs.lemmas.Bool.Decides.{nat_tests}
 use Rattle.rf_log.specs.Case.{is_among}
-
-pub same_bools : (a b : Bool) → (a ≡ true → b ≡ true) → (b ≡ true → a ≡ true) → a ≡ b
-same_bools true b f g = sym (f refl)
-same_bools false true f g = g refl
-same_bools false false f g = refl
-
-pub all_at : (q : ℕ → Bool) (xs : List ℕ) (c : ℕ) → list_all q xs ≡ true → is_among xs c ≡ true → q c ≡ true
-all_at q [] c all among = cc
-all_at q (x ∷ xs) c all among =
-    elim (cases_eq x c) [
-      | inl e ↦ grind (arith, nat_tests, ap q e)
-      | inr e ↦ all_at q xs c (grind (arith, nat_tests)) (grind (arith, nat_tests))
-    ]
+use Rattle.rf_log.proofs.CaseLaws.{among_all}
 
 pub all_from : (q : ℕ → Bool) (xs : List ℕ) → ((c : ℕ) → is_among xs c ≡ true → q c ≡ true) → list_all q xs ≡ true
 all_from q [] each = refl
@@ -27,7 +15,7 @@ all_from q (x ∷ xs) each =
 
 -- what holds of all of a set holds of all of a part of it
 pub all_part : (q : ℕ → Bool) (xs ys : List ℕ) → ((c : ℕ) → is_among ys c ≡ true → is_among xs c ≡ true) → list_all q xs ≡ true → list_all q ys ≡ true
-all_part q xs ys part all = all_from q ys (λ c among. all_at q xs c all (part c among))
+all_part q xs ys part all = all_from q ys (λ c among. among_all q xs c all (part c among))
 
 pub any_weaker : {X : Type 0} (f g : X → Bool) (xs : List X) → ((x : X) → f x ≡ true → g x ≡ true) → list_any f xs ≡ true → list_any g xs ≡ true
 any_weaker f g [] weaker any = any

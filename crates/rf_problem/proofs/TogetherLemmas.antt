@@ -1,14 +1,15 @@
 -- Which sets are together in the case of a problem.
-use Rattle.std.proofs.Common.{◌≡◌, ◌∙◌, ℕ, ◌<◌, ◌≤◌, List, [], ◌∷◌, Bool, true, ◌&&◌, nat_lt, length, refl, sym, ap, suc, arith}
-use Rattle.std.specs.Prelude.{All, IsTrue}
+use Rattle.std.proofs.Common.{◌≡◌, ◌∙◌, ℕ, ◌<◌, ◌≤◌, List, Bool, true, ◌&&◌, length, sym, ap, All, IsTrue}
 use Rattle.std.specs.List.{list_all}
 use Rattle.std.proofs.lemmas.Bool.{and_parts, and_from}
-use Rattle.std.proofs.lemmas.Bool.Decides.{nat_tests}
 use Rattle.rf_zones.specs.Masks.{has_bits}
 use Rattle.rf_log.specs.Case.{is_among, are_distinct, are_together}
 use Rattle.rf_log.specs.Laws.{IsOfSets, SetsAreTested}
 use Rattle.rf_problem.specs.Problem.{ProblemData, share_slice, all_meet, meet, are_joined, case_of}
-use Rattle.rf_problem.proofs.SetLemmas.{same_bools, all_at, all_from, all_part, any_weaker}
+use Rattle.rf_problem.proofs.SetLemmas.{all_from, all_part, any_weaker}
+use Rattle.rf_base.proofs.ListLaws.{tested_below}
+use Rattle.rf_base.proofs.BoolLaws.{same_test}
+use Rattle.rf_log.proofs.CaseLaws.{among_all}
 
 -- a set has a slice, and each two of it may be together in a set of so many
 abbrev are_joined_in : ProblemData → ℕ → List ℕ → Bool
@@ -21,22 +22,15 @@ joined_part p size xs ys part joined =
     and_from (share_slice p.slices ys) (all_meet size p.carriers ys)
     (any_weaker (has_bits xs) (has_bits ys) p.slices (λ slice has. all_part _ xs ys part has) parts.0)
     (all_from (λ a. list_all (λ b. meet size p.carriers a b) ys) ys
-    (λ a among. all_part (λ b. meet size p.carriers a b) xs ys part (all_at (λ a. list_all (λ b. meet size p.carriers a b) xs) xs a parts.1 (part a among))))
-
-tested_below : (n : ℕ) (set : List ℕ) → All (λ c. c < n) set → list_all (λ c. nat_lt c n) set ≡ true
-tested_below n [] below = refl
-tested_below n (c ∷ cs) below =
-    let here : c < n = below 0 c (omega arith) in
-    let rest : list_all (λ x. nat_lt x n) cs ≡ true = tested_below n cs (λ k d h. below (suc k) d (omega arith)) in
-    grind (arith, nat_tests)
+    (λ a among. all_part (λ b. meet size p.carriers a b) xs ys part (among_all (λ a. list_all (λ b. meet size p.carriers a b) xs) xs a parts.1 (part a among))))
 
 joined_same : (p : ProblemData) → IsOfSets (are_joined p)
 joined_same p = record {
   same = λ s t many into back.
       ap (λ size. are_joined_in p size s) many
-      ∙ same_bools (are_joined_in p (length t) s) (are_joined_in p (length t) t)
-      (joined_part p (length t) s t (λ c among. all_at (is_among s) t c back among))
-      (joined_part p (length t) t s (λ c among. all_at (is_among t) s c into among));
+      ∙ same_test (are_joined_in p (length t) s) (are_joined_in p (length t) t)
+      (joined_part p (length t) s t (λ c among. among_all (is_among s) t c back among))
+      (joined_part p (length t) t s (λ c among. among_all (is_among t) s c into among));
 }
 
 pub joined_is_together : SetsAreTested → (p : ProblemData) (set : List ℕ) → All (λ c. c < length p.carriers) set → IsTrue (are_distinct set) → 2 ≤ length set → length set ≤ 4

@@ -4,11 +4,7 @@ use Rattle.std.proofs.lemmas.List.{at_drop_more, take-append-drop, take_more_set
 use Rattle.std.proofs.lemmas.List.Concat.{flat_map-append}
 use Rattle.rf_profiles.specs.Range.{Span, span, IsRange, frequencies}
 use Rattle.rf_profiles.specs.Channels.{channels, RisesFrom, last_to, IsChannels, filled}
-
-pub slice_get_left : {X : Type 0} (xs ys : List X) (k : ℕ) (x : X) → slice_get xs k ≡ Some x → slice_get (xs ++ ys) k ≡ Some x
-slice_get_left [] ys k x h = cc
-slice_get_left (y ∷ xs) ys zero x h = h
-slice_get_left (y ∷ xs) ys (suc k) x h = slice_get_left xs ys k x h
+use Rattle.rf_base.proofs.ListLaws.{get_left}
 
 pub slice_get_right : {X : Type 0} (xs ys : List X) (k n : ℕ) → n ≡ length xs + k → slice_get (xs ++ ys) n ≡ slice_get ys k
 slice_get_right [] ys k n e = ap (slice_get ys) (e ∙ omega arith)
@@ -25,7 +21,7 @@ channels-split rs i = ap channels (sym (take-append-drop i rs)) ∙ flat_map-app
 
 -- what is sought is in the i-th range
 pub found_here : (rs : List Span) (i k f : ℕ) (r : Span) → i < length rs → r ≡ get_or rs i r → slice_get (frequencies r) k ≡ Some f → slice_get (channels (drop i rs)) k ≡ Some f
-found_here rs i k f r h is at = rw (channels-drop rs i r h is) (slice_get_left (frequencies r) _ k f at)
+found_here rs i k f r h is at = rw (channels-drop rs i r h is) (get_left (frequencies r) _ k f at)
 
 -- it is in a later one
 pub found_later : (rs : List Span) (i k n : ℕ) (r : Span) → i < length rs → r ≡ get_or rs i r →

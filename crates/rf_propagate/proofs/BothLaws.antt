@@ -1,6 +1,5 @@
 -- How justified removals compose, and what two propagators that are quiet on one box say together.
-use Rattle.std.proofs.Common.{◌≡◌, ℕ, ◌<◌, ◌≤◌, List, ◌++◌, Bool, true, false, ◌||◌, length, refl, sym, ◌∙◌, ap, subst, inl, inr, arith}
-use Rattle.std.specs.Prelude.{IsTrue, Contains}
+use Rattle.std.proofs.Common.{◌≡◌, ℕ, ◌<◌, ◌≤◌, List, ◌++◌, Bool, true, false, ◌||◌, length, refl, sym, ◌∙◌, ap, subst, inl, inr, arith, IsTrue, Contains}
 use Rattle.std.proofs.lemmas.List.Elements.{Contains-append_cases}
 use Rattle.std.proofs.lemmas.Bool.{and_parts}
 use Rattle.rf_terms.specs.declared.kind.Kind.{Kind}
@@ -10,8 +9,8 @@ use Rattle.rf_log.specs.Hints.{Line}
 use Rattle.rf_trail.specs.declared.entry.Entry.{Entry}
 use Rattle.rf_domain.specs.Sets.{total_of}
 use Rattle.rf_trail.specs.Trace.{Trace, has_of, box_of}
-use Rattle.rf_trail.proofs.TraceLemmas.{same_left}
-use Rattle.rf_domain.proofs.SetsLemmas.{total_mono}
+use Rattle.rf_trail.proofs.TraceLaws.{same_left}
+use Rattle.rf_domain.proofs.SetsLaws.{total_mono}
 use Rattle.rf_propagate.specs.Laws.{Extends, same, more, IsQuiet}
 
 pub grows_on : {case : Case} {lines : List Line} {es fs gs : List Entry}

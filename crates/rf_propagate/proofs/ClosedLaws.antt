@@ -1,6 +1,5 @@
 -- What is quiet for every kind lies within the closure.
-use Rattle.std.proofs.Common.{ℕ, List, Bool, ap, sym, ◌∙◌}
-use Rattle.std.specs.Prelude.{IsTrue}
+use Rattle.std.proofs.Common.{ℕ, List, Bool, ap, sym, ◌∙◌, IsTrue}
 use Rattle.rf_terms.specs.declared.kind.Kind.{Kind}
 use Rattle.rf_log.specs.declared.cond.Cond.{Cond}
 use Rattle.rf_log.specs.Case.{Case, is_allowed}

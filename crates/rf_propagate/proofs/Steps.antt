@@ -1,24 +1,18 @@
 -- Single removals, and what is left to each carrier.
-use Rattle.std.proofs.Common.{◌≡◌, ℕ, ◌+◌, ◌<◌, ◌≤◌, List, ◌∷◌, Bool, true, false, length, refl, sym, ◌∙◌, ap, subst, arith, inl, inr}
-use Rattle.std.specs.Prelude.{Result, Ok, Err, OnOk, OnErr, Some, None, if◌then◌else◌}
+use Rattle.std.proofs.Common.{◌≡◌, ℕ, ◌+◌, ◌<◌, ◌≤◌, List, ◌∷◌, Bool, true, false, length, refl, sym, ◌∙◌, ap, subst, arith, inl, inr, Result, Ok, Err, OnOk, OnErr, Some}
 use Rattle.std.proofs.lemmas.List.{length-map}
-use Rattle.std.proofs.lemmas.Bool.Decides.{nat_tests}
 use Rattle.rf_log.specs.declared.hint.Hint.TheVariants.{Ban}
 use Rattle.rf_log.specs.Case.{Case, counts_of}
 use Rattle.rf_log.specs.Relations.{IsLiving, IsEmptied}
 use Rattle.rf_log.specs.Hints.{Line, is_barred}
-use Rattle.rf_log.specs.Box.{Box, between, without}
+use Rattle.rf_log.specs.Box.{between, without}
 use Rattle.rf_domain.specs.Sets.{size_of, sizes, has}
-use Rattle.rf_domain.proofs.Counting.{lt_cases}
 use Rattle.rf_trail.specs.declared.entry.Entry.{Entry}
 use Rattle.rf_trail.specs.Trace.{Trace, has_of, box_of}
 use Rattle.rf_propagate.specs.Laws.{Extends, same, more, IsJustified}
-
-if_true : {A : Type 0} (t : Bool) (x : A) → t ≡ true → (if t then Some x else None) ≡ Some x
-if_true t x e = subst (λ (b : Bool). (if b then Some x else None) ≡ Some x) (sym e) refl
-
-without_gone : (b : Box) (c : ℕ) (gone : ℕ → Bool) (k : ℕ) → gone k ≡ true → without b c gone c k ≡ false
-without_gone b c gone k e = grind (arith, nat_tests)
+use Rattle.rf_base.proofs.NumberLaws.{lt_cases}
+use Rattle.rf_base.proofs.OptionLaws.{if_true}
+use Rattle.rf_log.proofs.BoxLaws.{without_gone}
 
 -- a removal by a ban
 barred_is : {case : Case} {lines : List Line} {es : List Entry} (c lo hi : ℕ) → is_barred case c lo hi ≡ true → lo ≤ hi → hi < size_of (counts_of case) c

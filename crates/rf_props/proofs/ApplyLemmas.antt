@@ -1,62 +1,21 @@
 -- What a rule and a ban take out of sets.
-use Rattle.std.proofs.Common.{
-  ◌≡◌,
-  ◌∙◌,
-  ℕ,
-  zero,
-  suc,
-  ◌+◌,
-  ◌-◌,
-  ◌<◌,
-  ◌≤◌,
-  ◌==◌,
-  Bool,
-  true,
-  false,
-  not,
-  ◌&&◌,
-  ◌||◌,
-  ◌⊎◌,
-  List,
-  [],
-  ◌∷◌,
-  ◌++◌,
-  length,
-  take,
-  drop,
-  get_or,
-  refl,
-  sym,
-  ap,
-  subst,
-  inl,
-  inr,
-  arith,
-}
-use Rattle.std.specs.Prelude.{All, insert, is_some, pos, nat_le, Some, None, if◌then◌else◌, slice_index_or}
+use Rattle.std.proofs.Common.{◌≡◌, ◌∙◌, ℕ, ◌+◌, ◌-◌, ◌<◌, ◌≤◌, ◌==◌, Bool, true, false, ◌&&◌, ◌||◌, ◌⊎◌, List, [], ◌∷◌, length, take, drop, get_or, refl, sym, ap, subst, inl, inr, arith}
+use Rattle.std.proofs.Common.{All, insert, is_some, nat_le, true≢false, get_or-drop, length-drop}
 use Rattle.std.specs.List.{list_all, remove}
-use Rattle.std.proofs.lemmas.Bool.{cases_Bool, cases_lt, and_parts, true≢false, leb-true, le-leb}
+use Rattle.std.proofs.lemmas.Bool.{cases_Bool, cases_lt, and_parts, false_from_ne_true}
 use Rattle.std.proofs.lemmas.Bool.Decides.{nat_tests}
-use Rattle.std.proofs.lemmas.List.{get_or_past, get_or_default, get_or-drop, length-drop}
-use borrow.Rule.Slice.PartMut.{put_mid}
+use Rattle.std.proofs.lemmas.List.{get_or_past, get_or_default}
 use Rattle.rf_terms.specs.declared.kind.Kind.{Kind}
-use Rattle.rf_terms.specs.Kinds.{roles_of}
-use Rattle.rf_terms.specs.Windows.{Breaks}
-use Rattle.rf_log.specs.Case.{Case, count_of, counts_of, freq_of, margin_of, is_instance, is_among, is_allowed, breaks}
-use Rattle.rf_log.specs.Box.{Box, between, only_index, each_below}
-use Rattle.rf_log.specs.Hints.{is_ruled_out, is_barred, indices_with}
-use Rattle.rf_log.proofs.Kept.{each_below-at, each_below-from}
+use Rattle.rf_log.specs.Case.{Case, count_of, counts_of, is_instance, is_among}
+use Rattle.rf_log.specs.Box.{Box, between, only_index}
+use Rattle.rf_log.specs.Hints.{is_ruled_out}
 use Rattle.rf_propagate.specs.Applied.{IsRangeIn, AreRolesIn}
 use Rattle.rf_props.specs.Sweeps.{AreFixed, AreBroken, IsHarmless, AreSingle, HaveMany}
-use Rattle.rf_props.proofs.CountLemmas.{count_any, counts_length}
+use Rattle.rf_props.proofs.CountLemmas.{count_any}
 use Rattle.rf_props.proofs.InsertLemmas.{all_in_insert, insert_remove, length_remove}
 use Rattle.rf_props.proofs.InstanceLemmas.{breaks_if, breaks_then, ruled_out, ruled_within}
 use Rattle.rf_props.proofs.StrikeLemmas.{apart_of}
-
--- what is not so
-not_so : (b : Bool) → (b ≡ true → ⊥) → b ≡ false
-not_so true h = absurd (h refl)
-not_so false h = refl
+use Rattle.rf_log.proofs.CaseLaws.{counts_length}
 
 sole_others : (case : Case) (has : Box) (c : ℕ) (others : List ℕ) → is_among others c ≡ false → list_all (λ o. (o == c) || is_some (only_index case has o)) others ≡ true
     → list_all (λ o. is_some (only_index case has o)) others ≡ true
@@ -71,7 +30,7 @@ sole_others case has c (o ∷ os) apart all =
 -- one of the others has not exactly one index
 pub ruled_many : (case : Case) (has : Box) (kind : Kind) (others : List ℕ) (place c lo hi : ℕ) → is_instance case kind (insert others place c) ≡ true → HaveMany case has others
     → lo ≤ hi → hi < count_of case c → is_ruled_out case has kind (insert others place c) c lo hi ≡ false
-ruled_many case has kind others place c lo hi good many ordered known = not_so _ (λ out.
+ruled_many case has kind others place c lo hi good many ordered known = false_from_ne_true _ (λ out.
     let parts = ruled_within case has kind (insert others place c) c lo hi lo (omega arith) (omega arith) ordered out in
     let sole = all_in_insert (λ o. (o == c) || is_some (only_index case has o)) others place c parts.1 in
     true≢false (sym (sole_others case has c others (apart_of case kind others place c good) sole.1) ∙ many.many))
@@ -79,7 +38,7 @@ ruled_many case has kind others place c lo hi good many ordered known = not_so _
 -- no index breaks it
 pub ruled_none : (case : Case) (has : Box) (kind : Kind) (others freqs : List ℕ) (place c lo hi : ℕ) → is_instance case kind (insert others place c) ≡ true → AreFixed case has others freqs
     → IsHarmless case kind place (insert others place c) freqs c → lo ≤ hi → hi < count_of case c → is_ruled_out case has kind (insert others place c) c lo hi ≡ false
-ruled_none case has kind others freqs place c lo hi good fixed none ordered known = not_so _ (λ out.
+ruled_none case has kind others freqs place c lo hi good fixed none ordered known = false_from_ne_true _ (λ out.
     let low : lo < count_of case c = omega arith in
     let parts = ruled_within case has kind (insert others place c) c lo hi lo low (omega arith) ordered out in
     none.none lo low (breaks_then case has kind others freqs place c lo fixed (apart_of case kind others place c good) parts.2))
@@ -95,7 +54,7 @@ ruled_range case has kind others freqs place c first last lo hi good fixed broke
     apart = apart_of case kind others place c good
 
     outside : (k : ℕ) → lo ≤ k → k ≤ hi → between first last k ≡ false → is_ruled_out case has kind (insert others place c) c lo hi ≡ false
-    outside k from to off = not_so _ (λ out.
+    outside k from to off = false_from_ne_true _ (λ out.
         let low : k < count_of case c = omega arith in
         let parts = ruled_within case has kind (insert others place c) c lo hi k low from to out in
         true≢false (sym (broken.all k low (breaks_then case has kind others freqs place c k fixed apart parts.2)) ∙ off))
@@ -169,24 +128,6 @@ pub off_and : (first lo : ℕ) (b : Bool) → lo < first → nat_le first lo ≡
 off_and first lo b over =
     let off : nat_le first lo ≡ false = grind (arith, nat_tests) in
     rw off
-
--- ---- channels that are not allowed
-
-pub barred_not : (case : Case) (c lo hi k : ℕ) → k < count_of case c → lo ≤ k → k ≤ hi → is_allowed case c k ≡ true → is_barred case c lo hi ≡ false
-barred_not case c lo hi k low from to allowed = not_so _ (λ all.
-    let at = each_below-at (count_of case c) (λ j. not (between lo hi j && is_allowed case c j)) k all low in
-    let inside : between lo hi k ≡ true = grind (arith, nat_tests) in
-    true≢false (sym at ∙ rw (inside, allowed)))
-
-pub barred_all : (case : Case) (c lo hi : ℕ) → ((j : ℕ) → lo ≤ j → j ≤ hi → is_allowed case c j ≡ false) → is_barred case c lo hi ≡ true
-barred_all case c lo hi none = each_below-from (count_of case c) (λ k. not (between lo hi k && is_allowed case c k)) (λ k low. at k (cases_Bool (between lo hi k)))
-  where
-    at : (k : ℕ) → (between lo hi k ≡ true) ⊎ (between lo hi k ≡ false) → not (between lo hi k && is_allowed case c k) ≡ true
-    at k (inr out) = rw out
-    at k (inl inside) =
-        let ends = and_parts (nat_le lo k) (nat_le k hi) inside in
-        let off = none k (leb-true lo k ends.0) (leb-true k hi ends.1) in
-        rw (inside, off)
 
 -- ---- roles
 

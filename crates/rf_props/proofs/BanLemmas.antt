@@ -1,15 +1,12 @@
 -- Channels that are not allowed.
-use Rattle.std.proofs.Common.{◌≡◌, ◌∙◌, ℕ, ◌+◌, ◌-◌, ◌<◌, ◌≤◌, Bool, true, false, not, ◌&&◌, ◌⊎◌, List, [], length, get_or, refl, sym, ap, subst, inl, inr, arith}
-use Rattle.std.specs.Prelude.{Option, Some, None}
-use Rattle.std.proofs.lemmas.Bool.{cases_Bool, cases_lt, true≢false}
+use Rattle.std.proofs.Common.{◌≡◌, ◌∙◌, ℕ, ◌+◌, ◌-◌, ◌<◌, ◌≤◌, Bool, true, false, not, ◌&&◌, ◌⊎◌, List, [], length, get_or, refl, sym, ap, subst, inl, inr, arith, Some, true≢false}
+use Rattle.std.proofs.lemmas.Bool.{cases_Bool, cases_lt}
 use Rattle.std.proofs.lemmas.Bool.Decides.{nat_tests}
 use Rattle.std.proofs.lemmas.List.{get_or_past}
 use Rattle.rf_log.specs.Case.{Case, Carrier, no_carrier, carrier_of, count_of, counts_of, is_allowed}
 use Rattle.rf_log.specs.Box.{Box, between}
 use Rattle.rf_log.specs.Hints.{is_barred}
 use Rattle.rf_log.specs.Relations.{IsLiving}
-use Rattle.rf_log.proofs.Kept.{each_below-from}
-use Rattle.rf_domain.proofs.Counting.{lt_cases}
 use Rattle.rf_domain.specs.Sets.{has, sizes}
 use Rattle.rf_trail.specs.Trace.{Trace, box_of}
 use Rattle.rf_propagate.specs.Laws.{IsQuiet}
@@ -17,6 +14,8 @@ use Rattle.rf_props.specs.Sweeps.{left}
 use Rattle.rf_props.specs.Bans.{IsAllowedAt, AreAllowedBelow, IsFirstFlag, IsRunDone, KeepsAllowed}
 use Rattle.rf_props.proofs.StrikeLemmas.{sized_left}
 use Rattle.rf_props.proofs.KeptLemmas.{AreLess, GoesOn, goes_on, left_earlier, stays}
+use Rattle.rf_base.proofs.NumberLaws.{lt_cases}
+use Rattle.rf_log.proofs.BoxLaws.{each_below-from}
 
 -- while flags are looked over
 pub record LooksOver (flags : List Bool) (from : ℕ) (wanted : Bool) (at : ℕ) : Type 0 where

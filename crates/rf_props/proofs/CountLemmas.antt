@@ -1,14 +1,11 @@
 -- The numbers of channels of a case, and lines that are added to others.
 use Rattle.std.proofs.Common.{◌≡◌, ◌∙◌, refl, ℕ, zero, suc, ◌+◌, ◌<◌, ◌≤◌, List, [], ◌∷◌, ◌++◌, length, map, take, get_or, sym, ap, subst, arith, inl, inr, length-append}
-use Rattle.std.specs.Prelude.{Result, Ok, Err, OnOk, OnErr}
+use Rattle.std.specs.Prelude.{Result, Ok, Err, OnOk, OnErr, nat_le, true}
 use Rattle.std.specs.List.Sorted.{IsStrictlyIncreasing}
-use Rattle.std.proofs.lemmas.List.{take_more, get_or-map, length-map, map-append, get_or_append_left, get_or-append-add}
+use Rattle.std.proofs.lemmas.List.{take_more, get_or-map, length-map, map-append, get_or_append_left, get_or-append-add, take_all}
 use Rattle.std.proofs.lemmas.List.Elements.{Contains-push_cases, Contains-get_or}
-use Rattle.std.proofs.lemmas.Bool.{cases_lt}
+use Rattle.std.proofs.lemmas.Bool.{cases_lt, and_from, le-leb}
 use Rattle.std.specs.List.{list_all}
-use Rattle.std.specs.Prelude.{nat_le, true}
-use Rattle.std.proofs.lemmas.Bool.{and_from, le-leb}
-use Rattle.std.proofs.lemmas.List.{take_all}
 use Rattle.std.proofs.lemmas.List.Folds.{list_all-append}
 use Rattle.rf_domain.specs.declared.limits.TheConstants.{CARRIER_LIMIT, INDEX_LIMIT}
 use Rattle.rf_domain.specs.Sets.{AreCounts}
@@ -16,6 +13,7 @@ use Rattle.rf_log.specs.declared.cond.Cond.{Cond}
 use Rattle.rf_log.specs.Case.{Case, Carrier, count_of, counts_of, no_carrier}
 use Rattle.rf_log.specs.Hints.{Line}
 use Rattle.rf_propagate.specs.Laws.{IsAbove, AreInRange, AreKnown, numbers_of}
+use Rattle.rf_log.proofs.CaseLaws.{counts_length}
 
 pub count_at : (case : Case) (c d : ℕ) → c < length case.carriers → get_or (counts_of case) c d ≡ count_of case c
 count_at case c d known = get_or-map (λ (x : Carrier). length x.freqs) case.carriers c no_carrier d known
@@ -28,9 +26,6 @@ count_any case c = at case.carriers c
     at [] c = refl
     at (x ∷ xs) zero = refl
     at (x ∷ xs) (suc c) = at xs c
-
-pub counts_length : (case : Case) → length (counts_of case) ≡ length case.carriers
-counts_length case = length-map case.carriers (λ (x : Carrier). length x.freqs)
 
 pub counts_more : (case : Case) (c n : ℕ) (xs : List ℕ) → c < length case.carriers → xs ≡ take c (counts_of case) → n ≡ count_of case c → xs ++ n ∷ [] ≡ take (c + 1) (counts_of case)
 counts_more case c n xs known so e =

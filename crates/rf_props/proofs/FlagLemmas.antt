@@ -6,16 +6,15 @@ use Rattle.std.proofs.lemmas.Bool.{cases_eq, cases_lt, true≢false}
 use Rattle.std.proofs.lemmas.List.{get_or_past, get_or-replicate, get_or-set_same, get_or-set_other, length-replicate}
 use Rattle.rf_log.specs.Case.{Case, count_of, counts_of}
 use Rattle.rf_log.specs.Box.{Box, only_index}
-use Rattle.rf_log.proofs.Kept.{only_below-is}
 use Rattle.std.proofs.lemmas.List.Elements.{All-push, Contains-push, Contains-append_left}
 use Rattle.rf_domain.specs.Indices.{flag, IsOnly}
-use Rattle.rf_domain.proofs.Counting.{lt_cases}
 use Rattle.rf_domain.specs.Sets.{has, sizes}
 use Rattle.rf_zones.specs.declared.mask.TheConstants.{MAX_CARRIERS}
 use Rattle.rf_props.specs.Flags.{is_flagged, AreSingles, HaveFew, AreFresh}
-use Rattle.rf_props.proofs.CountLemmas.{count_any, counts_length}
+use Rattle.rf_props.proofs.CountLemmas.{count_any}
 use Rattle.rf_props.proofs.KeptLemmas.{AreSized}
-use Rattle.rf_props.proofs.SingleLemmas.{only_below-some, only_below-here}
+use Rattle.rf_base.proofs.NumberLaws.{lt_cases}
+use Rattle.rf_log.proofs.BoxLaws.{only_below-is, only_below-from, only_below-sound}
 
 flag_below : (set : List Bool) (k : ℕ) → flag set k ≡ true → k < length set
 flag_below set k here = elim (cases_lt k (length set)) [ inl low ↦ low | inr past ↦ absurd (true≢false (sym here ∙ get_or_past set k false past)) ]
@@ -67,13 +66,13 @@ pub flagged_more : (case : Case) (sets : List (List Bool)) (n : ℕ) (flags : Li
 flagged_more case sets n flags (Some k) is room only so = flagged_set case sets n true flags room (sym (ap is_some found)) so
   where
     found : only_index case (has sets) n ≡ Some k
-    found = only_below-some (count_of case n) (has sets n) k (sets_sized case sets is n k only.here) only.here only.alone
+    found = only_below-from (count_of case n) (has sets n) k (sets_sized case sets is n k only.here) only.here only.alone
 flagged_more case sets n flags None is room none so = flagged_set case sets n false flags room (sym (off (only_index case (has sets) n) refl)) so
   where
     off : (o : Option ℕ) → only_index case (has sets) n ≡ o → is_some (only_index case (has sets) n) ≡ false
     off None e = ap is_some e
     off (Some k) e =
-        let here = only_below-here (count_of case n) (has sets n) k e in
+        let here = only_below-sound (count_of case n) (has sets n) k e in
         absurd (none k (record { here = here.1; alone = λ j on. only_below-is (count_of case n) (has sets n) k j e (sets_sized case sets is n j on) on }))
 
 -- a carrier that is flagged as single has at most one index

@@ -1,5 +1,5 @@
 -- Instances, and the indices that break them.
-use Rattle.std.proofs.Common.{◌≡◌, ◌∙◌, ℕ, suc, ◌<◌, ◌≤◌, ◌==◌, Bool, true, false, not, ◌&&◌, ◌||◌, ◌⊎◌, List, [], ◌∷◌, length, map, refl, sym, ap, inl, inr, arith}
+use Rattle.std.proofs.Common.{◌≡◌, ◌∙◌, ℕ, ◌<◌, ◌≤◌, ◌==◌, Bool, true, false, not, ◌&&◌, ◌||◌, ◌⊎◌, List, [], ◌∷◌, length, map, refl, sym, ap, inl, inr, arith}
 use Rattle.std.specs.Prelude.{All, is_some, insert, pos, unsigned_abs, nat_lt}
 use Rattle.std.specs.List.{list_all}
 use Rattle.std.proofs.lemmas.Bool.{cases_Bool, cases_eq, and_parts, and_from, true≢false, eq-eqb, ltb-true, lt-ltb}
@@ -11,20 +11,16 @@ use Rattle.rf_terms.specs.Windows.{Breaks}
 use Rattle.rf_log.specs.Case.{Case, count_of, freq_of, margin_of, freqs_at, is_instance, is_in_order, is_among, are_distinct, are_together, is_broken, breaks}
 use Rattle.rf_log.specs.Box.{Box, between, only_index}
 use Rattle.rf_log.specs.Hints.{indices_with, is_ruled_out}
-use Rattle.rf_log.proofs.Kept.{each_below-at, each_below-from}
 use Rattle.rf_props.specs.Sweeps.{sole_freq, AreFixed, IsClear}
-use Rattle.rf_props.proofs.InsertLemmas.{map_insert, all_insert}
-
-all_known : (n : ℕ) (set : List ℕ) → All (λ c. c < n) set → list_all (λ c. nat_lt c n) set ≡ true
-all_known n [] below = refl
-all_known n (c ∷ cs) below =
-    let here : c < n = below 0 c (omega arith) in
-    and_from (nat_lt c n) _ (lt-ltb c n here) (all_known n cs (λ k d h. below (suc k) d (omega arith)))
+use Rattle.rf_props.proofs.InsertLemmas.{all_insert}
+use Rattle.rf_base.proofs.ListLaws.{tested_below, map_insert}
+use Rattle.rf_base.proofs.BoolLaws.{implies}
+use Rattle.rf_log.proofs.BoxLaws.{each_below-at, each_below-from}
 
 pub instance_by : (case : Case) (kind : Kind) (roles : List ℕ) {n : ℕ} → length roles ≡ roles_of kind → length case.carriers ≡ n → All (λ c. c < n) roles
     → are_distinct roles ≡ true → is_in_order kind roles ≡ true → is_instance case kind roles ≡ are_together case roles
 instance_by case kind roles size count known distinct ordered =
-    let known' : list_all (λ c. nat_lt c (length case.carriers)) roles ≡ true = all_known (length case.carriers) roles (λ k d h. omega (arith, known k d h)) in
+    let known' : list_all (λ c. nat_lt c (length case.carriers)) roles ≡ true = tested_below (length case.carriers) roles (λ k d h. omega (arith, known k d h)) in
     let as_long : (length roles == roles_of kind) ≡ true = eq-eqb (length roles) (roles_of kind) size in
     rw (as_long, known', distinct, ordered)
 
@@ -79,10 +75,6 @@ some_or_target case has c (o ∷ os) all =
     or_right true b e = refl
     or_right false b e = e
 
-outside_or : (a b : Bool) → (a ≡ true → b ≡ true) → (not a || b) ≡ true
-outside_or true b f = f refl
-outside_or false b f = refl
-
 -- an instance whose others are fixed rules out a range in which each index breaks it
 pub ruled_out : (case : Case) (has : Box) (kind : Kind) (others freqs : List ℕ) (place c lo hi : ℕ) → is_instance case kind (insert others place c) ≡ true → AreFixed case has others freqs
     → ((k : ℕ) → k < count_of case c → between lo hi k ≡ true → breaks case kind (insert others place c) (indices_with case has c k) ≡ true)
@@ -91,7 +83,7 @@ ruled_out case has kind others freqs place c lo hi good fixed broken =
     and_from _ _ (and_from _ _ good (all_insert (λ o. (o == c) || is_some (only_index case has o)) others place c (here (is_some (only_index case has c)))
     (some_or_target case has c others fixed.sole)))
     (each_below-from (count_of case c) (λ k. not (between lo hi k) || breaks case kind (insert others place c) (indices_with case has c k))
-    (λ k known. outside_or (between lo hi k) _ (broken k known)))
+    (λ k known. implies (between lo hi k) _ (broken k known)))
   where
     here : (b : Bool) → ((c == c) || b) ≡ true
     here b = let e : (c == c) ≡ true = eq-eqb c c refl in rw e
@@ -103,7 +95,7 @@ ruled_at case has kind roles c k good sole broken =
     and_from _ _ (and_from _ _ good sole) (each_below-from (count_of case c) (λ j. not (between k k j) || breaks case kind roles (indices_with case has c j)) (λ j low. at_j j (cases_eq j k)))
   where
     at_j : (j : ℕ) → (j ≡ k) ⊎ (j ≡ k → ⊥) → (not (between k k j) || breaks case kind roles (indices_with case has c j)) ≡ true
-    at_j j (inl e) = outside_or (between k k j) _ (λ inside. ap (λ x. breaks case kind roles (indices_with case has c x)) e ∙ broken)
+    at_j j (inl e) = implies (between k k j) _ (λ inside. ap (λ x. breaks case kind roles (indices_with case has c x)) e ∙ broken)
     at_j j (inr e) = let out : between k k j ≡ false = grind (arith, nat_tests) in rw out refl
 
 -- what a range says of each of its indices

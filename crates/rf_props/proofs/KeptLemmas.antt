@@ -1,5 +1,5 @@
 -- What is done stays done while less and less is left.
-use Rattle.std.proofs.Common.{◌≡◌, ◌∙◌, ℕ, zero, suc, ◌<◌, ◌≤◌, ◌==◌, Bool, true, false, ◌||◌, ◌⊎◌, List, [], ◌∷◌, ◌++◌, length, map, refl, sym, ap, subst, inl, inr, arith}
+use Rattle.std.proofs.Common.{◌≡◌, ◌∙◌, ℕ, ◌<◌, ◌≤◌, ◌==◌, Bool, true, false, ◌||◌, ◌⊎◌, List, [], ◌∷◌, ◌++◌, length, map, refl, sym, ap, subst, inl, inr, arith}
 use Rattle.std.specs.Prelude.{Option, Some, None, insert, is_some}
 use Rattle.std.specs.List.{list_all}
 use Rattle.std.proofs.lemmas.Bool.{cases_Bool, cases_lt, cases_eq, and_parts, and_from, true≢false, ne_eqb, eq-eqb, le-leb, leb-true}
@@ -9,10 +9,9 @@ use Rattle.rf_terms.specs.declared.kind.Kind.{Kind}
 use Rattle.rf_log.specs.Case.{Case, count_of, counts_of, freq_of, margin_of, is_among, is_broken, breaks}
 use Rattle.rf_log.specs.Box.{Box, only_index}
 use Rattle.rf_log.specs.Hints.{Line, indices_with}
-use Rattle.rf_log.proofs.Kept.{only_below-is}
 use Rattle.rf_domain.specs.Indices.{count_below}
 use Rattle.rf_domain.specs.Sets.{size_of}
-use Rattle.rf_domain.proofs.Counting.{count_mono, count_same, count_sole, count_alone, count_zero}
+use Rattle.rf_domain.proofs.CountLaws.{count_mono, count_same, count_sole, count_alone, count_zero}
 use Rattle.rf_trail.specs.Trace.{Trace, has_of}
 use Rattle.rf_propagate.specs.Laws.{Extends, same}
 use Rattle.rf_propagate.proofs.BothLaws.{grows_on, left_before}
@@ -21,8 +20,9 @@ use Rattle.rf_props.specs.Sweeps.{left, has_at_most_one, NoneFixed, IsClear, IsS
 use Rattle.rf_props.proofs.CountLemmas.{count_any}
 use Rattle.rf_props.proofs.InsertLemmas.{all_in_insert, among_others}
 use Rattle.rf_props.proofs.InstanceLemmas.{clear_unbroken, ruled_at}
-use Rattle.rf_props.proofs.SingleLemmas.{only_below-some, only_below-here}
 use Rattle.rf_props.proofs.StrikeLemmas.{sized_left, apart_of}
+use Rattle.rf_log.proofs.CaseLaws.{among_all}
+use Rattle.rf_log.proofs.BoxLaws.{only_below-is, only_below-from, only_below-sound}
 
 -- the trail went on, and each new entry has a reason
 pub record GoesOn (case : Case) (old new : Trace) : Type 0 where
@@ -49,14 +49,10 @@ few_stay {case} {a} {b} on c few =
     let size : size_of b.counts c ≡ size_of a.counts c = ap (λ ns. size_of ns c) on.counts in
     le-leb _ _ (subst (λ (n : ℕ). count_below (left b c) n ≤ 1) (sym size) (omega (arith, less, had)))
 
-cases_zero : (m : ℕ) → (m ≡ 0) ⊎ (1 ≤ m)
-cases_zero zero = inl refl
-cases_zero (suc m) = inr (omega arith)
-
 -- the one index of a carrier was its one index before
 only_before : {case : Case} {a b : Trace} → GoesOn case a b → a.counts ≡ counts_of case → NoneFixed a b → (o k : ℕ) → only_index case (left b) o ≡ Some k → only_index case (left a) o ≡ Some k
 only_before {case} {a} {b} on counts still o k only =
-    only_below-some n (left a o) k here.0 had (λ j there. count_alone (left a o) n one j k (sized_left case a counts o j there) here.0 there had)
+    only_below-from n (left a o) k here.0 had (λ j there. count_alone (left a o) n one j k (sized_left case a counts o j there) here.0 there had)
   where
     n : ℕ
     n = count_of case o
@@ -65,7 +61,7 @@ only_before {case} {a} {b} on counts still o k only =
     counts' = on.counts ∙ counts
 
     here : (k < count_of case o) × (left b o k ≡ true)
-    here = only_below-here (count_of case o) (left b o) k only
+    here = only_below-sound (count_of case o) (left b o) k only
 
     had : left a o k ≡ true
     had = left_earlier on o k here.1
@@ -81,9 +77,9 @@ only_before {case} {a} {b} on counts still o k only =
     one =
         let size : size_of a.counts o ≡ count_of case o = ap (λ ns. size_of ns o) counts ∙ count_any case o in
         let most : count_below (left a o) (count_of case o) ≤ 1 = subst (λ (m : ℕ). count_below (left a o) m ≤ 1) size (leb-true _ _ (still.each o few)) in
-        elim (cases_zero (count_below (left a o) (count_of case o))) [
-          | inl none ↦ absurd (true≢false (sym had ∙ count_zero (left a o) (count_of case o) none k here.0))
-          | inr some ↦ omega (arith, most, some)
+        elim (cases_lt 0 (count_below (left a o) (count_of case o))) [
+          | inr none ↦ absurd (true≢false (sym had ∙ count_zero (left a o) (count_of case o) (omega (arith, none)) k here.0))
+          | inl some ↦ omega (arith, most, some)
         ]
 
 one_role : (case : Case) (old new : Box) (c k o : ℕ) → ((o == c) ≡ false → is_some (only_index case new o) ≡ true → only_index case old o ≡ only_index case new o)
@@ -145,22 +141,12 @@ only_few case old new flags less few o flagged some = by (only_index case new o)
     by : (x : Option ℕ) → only_index case new o ≡ x → is_some x ≡ true → only_index case old o ≡ only_index case new o
     by None e none = absurd (true≢false (sym none))
     by (Some k) e some =
-        let here = only_below-here (count_of case o) (new o) k e in
+        let here = only_below-sound (count_of case o) (new o) k e in
         let had : old o k ≡ true = less o k here.1 in
-        only_below-some (count_of case o) (old o) k here.0 had (λ j there. few.each o j k flagged there had) ∙ sym e
+        only_below-from (count_of case o) (old o) k here.0 had (λ j there. few.each o j k flagged there had) ∙ sym e
 
 pub few_less : {old new : Box} {flags : List Bool} → AreLess old new → HaveFew old flags → HaveFew new flags
 few_less less few = record { each = λ c j k flagged here there. few.each c j k flagged (less c j here) (less c k there) }
-
--- one that passes the test among those that all do
-pub among_all : (p : ℕ → Bool) (xs : List ℕ) (o : ℕ) → list_all p xs ≡ true → is_among xs o ≡ true → p o ≡ true
-among_all p [] o all among = absurd (true≢false (sym among))
-among_all p (x ∷ xs) o all among =
-    let parts = and_parts (p x) (list_all p xs) all in
-    elim (cases_eq x o) [
-      | inl e ↦ subst (λ (y : ℕ). p y ≡ true) e parts.0
-      | inr e ↦ let later : is_among xs o ≡ true = grind (arith, nat_tests) in among_all p xs o parts.1 later
-    ]
 
 -- a carrier with many indices is in no struck instance
 many_among : (case : Case) (has : Box) (xs : List ℕ) (c : ℕ) → is_among xs c ≡ false → list_all (λ o. (o == c) || is_some (only_index case has o)) xs ≡ true

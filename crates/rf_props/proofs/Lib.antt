@@ -1,16 +1,16 @@
-pub mod CountLemmas
-pub mod TheoryLemmas
-pub mod RangeLemmas
-pub mod InstanceLemmas
-pub mod InsertLemmas
-pub mod RoleLemmas
-pub mod StrikeLemmas
-pub mod SingleLemmas
-pub mod KeptLemmas
-pub mod LiveLemmas
-pub mod SweepLemmas
-pub mod SettleLemmas
-pub mod BanLemmas
-pub mod FlagLemmas
-pub mod RestLemmas
-pub mod ApplyLemmas
+mod ApplyLemmas
+mod BanLemmas
+mod CountLemmas
+mod FlagLemmas
+mod InsertLemmas
+mod InstanceLemmas
+mod KeptLemmas
+mod LiveLemmas
+mod RangeLemmas
+mod RestLemmas
+mod RoleLemmas
+mod SettleLemmas
+mod SingleLemmas
+mod StrikeLemmas
+mod SweepLemmas
+mod TheoryLemmas

@@ -1,17 +1,16 @@
 -- Marks of what may be left.
-use Rattle.std.proofs.Common.{◌≡◌, ◌∙◌, ℕ, ◌+◌, ◌-◌, ◌/◌, ◌^◌, ◌<◌, ◌≤◌, Bool, true, false, not, ◌||◌, ◌⊎◌, List, [], length, get_or, refl, sym, ap, subst, inl, inr, arith, pow_pos}
+use Rattle.std.proofs.Common.{◌≡◌, ◌∙◌, ℕ, ◌+◌, ◌-◌, ◌/◌, ◌^◌, ◌<◌, ◌≤◌, Bool, true, false, not, ◌⊎◌, List, [], length, get_or, sym, ap, subst, inl, inr, arith, pow_pos}
 use Rattle.std.specs.Prelude.{nat_le, pos, ℤ, ◌≤ℤ◌, ◌<ℤ◌, ◌↔◌}
 use Rattle.std.specs.List.Sorted.{IsStrictlyIncreasing}
 use Rattle.std.proofs.Math.Nat.{div-mul-le_self}
 use Rattle.std.proofs.lemmas.Nat.{le-div}
-use Rattle.std.proofs.lemmas.Bool.{cases_Bool, cases_lt, and_parts, and_from, le-leb, leb-true, true≢false}
+use Rattle.std.proofs.lemmas.Bool.{cases_Bool, cases_lt, and_parts, and_from, leb-true, true≢false, or_right, or_left}
 use Rattle.std.proofs.lemmas.Int.{ints}
 use Rattle.rf_terms.specs.Forms.{AreFrequencies}
 use Rattle.rf_log.specs.Case.{Case, carrier_of, count_of, counts_of, freq_of}
 use Rattle.rf_log.specs.Box.{Box}
 use Rattle.rf_domain.specs.Indices.{flag, between, HasNoneFrom, IsNext, IsRun}
 use Rattle.rf_domain.specs.Sets.{has, with_all, without}
-use Rattle.rf_domain.proofs.Counting.{lt_cases}
 use Rattle.rf_trail.specs.Trace.{Trace}
 use Rattle.rf_props.specs.Sweeps.{left, HasNoneOf, HasNoneWithin}
 use Rattle.rf_props.specs.Ranges.{IsIn, AreBelow}
@@ -19,6 +18,8 @@ use Rattle.rf_props.specs.Live.{Marks, cell_of, is_marked, IsMarkedAt, AreMarked
 use Rattle.rf_props.proofs.KeptLemmas.{GoesOn, left_earlier}
 use Rattle.rf_props.proofs.RangeLemmas.{rising_le, from_first}
 use Rattle.rf_props.proofs.StrikeLemmas.{sized_left}
+use Rattle.rf_base.proofs.NumberLaws.{lt_cases}
+use Rattle.rf_domain.proofs.RangeLaws.{in_range}
 
 -- the higher frequency has no lower cell
 parts_mono : (a b d : ℕ) → 0 < d → a ≤ b → a / d ≤ b / d
@@ -29,17 +30,6 @@ cell_mono m f g less =
     let parts : (f - m.base) / 2 ^ m.shift ≤ (g - m.base) / 2 ^ m.shift = parts_mono (f - m.base) (g - m.base) (2 ^ m.shift) (pow_pos m.shift) (omega arith) in
     omega arith
 
-in_between : (lo hi k : ℕ) → lo ≤ k → k ≤ hi → between lo hi k ≡ true
-in_between lo hi k over under = and_from _ _ (le-leb lo k over) (le-leb k hi under)
-
-or_left : (a b : Bool) → a ≡ true → (a || b) ≡ true
-or_left true b e = refl
-or_left false b e = absurd (true≢false (sym e))
-
-or_right : (a b : Bool) → b ≡ true → (a || b) ≡ true
-or_right true b e = refl
-or_right false b e = e
-
 abbrev with_cells : Marks → List (List Bool) → Marks
 with_cells m sets = record { base = m.base; shift = m.shift; cells = sets }
 
@@ -48,7 +38,7 @@ pub mark_marks : (m : Marks) (sets : List (List Bool)) (first last lo hi f : ℕ
 mark_marks m sets first last lo hi f is_first is_last is over under =
     let low : first ≤ cell_of m f = omega (arith, is_first, cell_mono m lo f over) in
     let high : cell_of m f ≤ last = omega (arith, is_last, cell_mono m f hi under) in
-    ap (λ h. h 0 (cell_of m f)) is ∙ or_right (has m.cells 0 (cell_of m f)) (between first last (cell_of m f)) (in_between first last (cell_of m f) low high)
+    ap (λ h. h 0 (cell_of m f)) is ∙ or_right (has m.cells 0 (cell_of m f)) (between first last (cell_of m f)) (in_range first last (cell_of m f) low high)
 
 pub mark_keeps : (m : Marks) (sets : List (List Bool)) (first last f : ℕ) → has sets ≡ with_all (has m.cells) 0 (between first last) → is_marked m f ≡ true → is_marked (with_cells m sets) f ≡ true
 mark_keeps m sets first last f is marked = ap (λ h. h 0 (cell_of m f)) is ∙ or_left (has m.cells 0 (cell_of m f)) (between first last (cell_of m f)) marked

@@ -1,6 +1,5 @@
 -- Roles in an array of four.
-use Rattle.std.proofs.Common.{◌≡◌, ℕ, zero, suc, ◌+◌, ◌<◌, ◌≤◌, List, [], ◌∷◌, ◌++◌, length, take, drop, get_or, ap, arith, refl, ◌∙◌}
-use Rattle.std.specs.Prelude.{insert, ◌-◌}
+use Rattle.std.proofs.Common.{◌≡◌, ℕ, zero, suc, ◌+◌, ◌<◌, ◌≤◌, List, [], ◌∷◌, ◌++◌, length, take, drop, get_or, ap, arith, refl, ◌∙◌, insert, ◌-◌}
 use borrow.Rule.Slice.PartMut.{put_mid}
 
 pub record IsPadded (roles : List ℕ) (n : ℕ) (all : List ℕ) : Type 0 where

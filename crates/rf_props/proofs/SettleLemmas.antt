@@ -1,27 +1,28 @@
 -- When nothing more is struck.
-use Rattle.std.proofs.Common.{◌≡◌, ◌∙◌, ℕ, zero, suc, ◌+◌, ◌<◌, ◌≤◌, ◌==◌, Bool, true, false, ◌||◌, List, [], ◌∷◌, length, map, get_or, refl, sym, ap, subst, inl, inr, arith}
-use Rattle.std.specs.Prelude.{Result, Ok, Err, OnOk, drop, take, ◌-◌, Contains, Some, insert, is_some}
+use Rattle.std.proofs.Common.{◌≡◌, ◌∙◌, ℕ, zero, suc, ◌+◌, ◌<◌, ◌≤◌, ◌==◌, Bool, true, false, ◌||◌, List, [], ◌∷◌, length, map, get_or, refl, sym, ap, subst, inl, inr, arith, Result, Ok}
+use Rattle.std.proofs.Common.{Err, OnOk, drop, take, ◌-◌, Contains, Some, insert, is_some, true≢false, ne_eqb, eq-eqb, take_all}
 use Rattle.std.specs.List.{remove}
-use Rattle.std.proofs.lemmas.Bool.{cases_Bool, cases_eq, true≢false, ne_eqb, eq-eqb, eqb-true, and_parts}
-use Rattle.std.proofs.lemmas.List.{take_all}
+use Rattle.std.proofs.lemmas.Bool.{cases_Bool, cases_eq}
 use Rattle.std.proofs.lemmas.List.Sums.{list_all-from_AllPass}
 use Rattle.std.proofs.lemmas.List.Elements.{Contains-get_or}
 use Rattle.rf_terms.specs.declared.kind.Kind.{Kind}
 use Rattle.rf_terms.specs.Kinds.{has_victim, roles_of}
-use Rattle.rf_log.specs.Case.{Case, count_of, counts_of, freq_of, margin_of, is_instance, is_in_order, are_distinct, are_together, is_broken, breaks}
+use Rattle.rf_log.specs.Case.{Case, count_of, counts_of, freq_of, margin_of, is_instance, is_broken, breaks}
 use Rattle.rf_log.specs.Box.{Box, only_index}
 use Rattle.rf_log.specs.Relations.{IsStruck, IsSettled, IsLiving}
 use Rattle.rf_log.specs.Hints.{indices_with, is_ruled_out}
-use Rattle.rf_domain.proofs.Counting.{lt_cases, count_bound}
+use Rattle.rf_domain.proofs.CountLaws.{count_bound}
 use Rattle.rf_trail.specs.Trace.{Trace, box_of}
 use Rattle.rf_propagate.specs.Laws.{IsQuiet}
 use Rattle.rf_props.specs.Flags.{AreSingles, HaveFew}
 use Rattle.rf_props.specs.Sweeps.{left, has_at_most_one, IsClear, IsSwept, target_role, IsKindDone, AreKindsDone, AreAllDone}
 use Rattle.rf_props.proofs.InsertLemmas.{insert_remove, length_remove}
-use Rattle.rf_props.proofs.SingleLemmas.{only_below-some}
 use Rattle.rf_props.proofs.StrikeLemmas.{sized_left}
 use Rattle.rf_props.proofs.InstanceLemmas.{ruled_at}
 use Rattle.rf_props.proofs.KeptLemmas.{GoesOn, goes_on, stays, swept_on, kind_on, fixed_of, more_fixed, same_fixed, all_done}
+use Rattle.rf_base.proofs.NumberLaws.{lt_cases}
+use Rattle.rf_log.proofs.CaseLaws.{instance_full}
+use Rattle.rf_log.proofs.BoxLaws.{only_below-from}
 
 map_same : (f g : ℕ → ℕ) (xs : List ℕ) → ((i : ℕ) → i < length xs → f (get_or xs i 0) ≡ g (get_or xs i 0)) → map f xs ≡ map g xs
 map_same f g [] each = refl
@@ -38,7 +39,7 @@ struck_out case t kinds c k counts here s =
     sole : (r : ℕ) → Contains s.roles r → (r ≡ c → ⊥) → only_index case (left t) r ≡ Some (s.at r)
     sole r among other =
         let one = s.others r among other in
-        only_below-some (count_of case r) (left t r) (s.at r) (sized_left case t counts r (s.at r) one.0) one.0 one.1
+        only_below-from (count_of case r) (left t r) (s.at r) (sized_left case t counts r (s.at r) one.0) one.0 one.1
 
     some_or : (r : ℕ) → Contains s.roles r → ((r == c) || is_some (only_index case (left t) r)) ≡ true
     some_or r among = elim (cases_eq r c) [
@@ -57,18 +58,13 @@ struck_out case t kinds c k counts here s =
         ap (λ fs. is_broken s.kind fs (margin_of case s.kind s.roles)) (map_same (λ r. freq_of case r (indices_with case (left t) c k r)) (λ r. freq_of case r (s.at r)) s.roles
         (λ i low. ap (freq_of case (get_or s.roles i 0)) (index (get_or s.roles i 0) (Contains-get_or s.roles i 0 low)))) ∙ s.breaks
 
-roles_size : (case : Case) (kind : Kind) (roles : List ℕ) → is_instance case kind roles ≡ true → length roles ≡ roles_of kind
-roles_size case kind roles good =
-    eqb-true (length roles) (roles_of kind) (and_parts (length roles == roles_of kind) _
-    (and_parts _ (are_distinct roles) (and_parts _ (is_in_order kind roles) (and_parts _ (are_together case roles) good).0).0).0).0
-
 -- where every role of every kind is done, nothing more is struck
 pub settled_by : (case : Case) (t : Trace) (kinds : List Kind) → t.counts ≡ counts_of case → AreAllDone case (left t) kinds → IsSettled case kinds (box_of t)
 settled_by case t kinds counts done c k here s =
     let at = s.target in
     let place : ℕ = at.0 in
     let is : insert (remove s.roles place) place c ≡ s.roles = ap (insert (remove s.roles place) place) (sym at.2) ∙ insert_remove s.roles place c at.1 in
-    let size : length s.roles ≡ roles_of s.kind = roles_size case s.kind s.roles s.is_instance in
+    let size : length s.roles ≡ roles_of s.kind = instance_full case s.kind s.roles s.is_instance in
     let clear : IsClear case (left t) s.kind (insert (remove s.roles place) place c) c =
     done.each s.kind s.among place (omega (arith, at.1, size)) (remove s.roles place) c (length_remove s.roles place at.1 ∙ size) in
     true≢false (sym (struck_out case t kinds c k counts here s) ∙ ap (λ rs. is_ruled_out case (left t) s.kind rs c k k) (sym is) ∙ clear.each k here)

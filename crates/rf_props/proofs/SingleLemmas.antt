@@ -1,60 +1,29 @@
 -- Carriers with one index.
-use Rattle.std.proofs.Common.{◌≡◌, ◌∙◌, ℕ, zero, suc, ◌+◌, ◌<◌, ◌≤◌, Bool, true, false, not, List, [], ◌∷◌, ◌++◌, length, map, take, get_or, set, add-zero, refl, sym, ap, subst, inl, inr, arith}
-use Rattle.std.specs.Prelude.{Option, Some, None, is_some, if◌then◌else◌}
+use Rattle.std.proofs.Common.{◌≡◌, ◌∙◌, ℕ, suc, ◌+◌, ◌<◌, ◌≤◌, Bool, true, false, List, [], ◌∷◌, ◌++◌, length, map, take, get_or, set, add-zero, refl, sym, ap, subst, arith}
+use Rattle.std.specs.Prelude.{Option, Some, None, is_some}
 use Rattle.std.specs.Option.{unwrap_or}
 use Rattle.std.proofs.Math.ListN.{length-set}
-use Rattle.std.proofs.lemmas.Bool.{cases_Bool, cases_lt, and_from, le-leb, true≢false}
+use Rattle.std.proofs.lemmas.Bool.{and_from, le-leb}
 use Rattle.std.proofs.lemmas.Bool.Decides.{nat_tests}
 use Rattle.std.proofs.lemmas.List.{take_more, take_more_set, map-append}
 use Rattle.std.proofs.lemmas.List.Folds.{list_all_more, list_all_at}
 use Rattle.std.proofs.lemmas.List.Elements.{All-push}
 use Rattle.rf_terms.specs.Forms.{AreFrequencies}
 use Rattle.rf_log.specs.Case.{Case, count_of, counts_of, freq_of}
-use Rattle.rf_log.specs.Box.{Box, each_below, only_below, only_index}
-use Rattle.rf_log.proofs.Kept.{each_below-from, only_below-is}
+use Rattle.rf_log.specs.Box.{Box, only_index}
 use Rattle.rf_domain.specs.Indices.{IsOnly, count_below}
 use Rattle.rf_domain.specs.Sets.{has, sizes, size_of}
 use Rattle.rf_trail.specs.Trace.{Trace}
 use Rattle.rf_props.specs.Sweeps.{left, has_at_most_one, sole_freq, IsSingle, HasMany, AreSingle, HaveMany}
-use Rattle.rf_propagate.proofs.LineLemmas.{low_of}
-
-pub only_below-some : (n : ℕ) (p : ℕ → Bool) (k : ℕ) → k < n → p k ≡ true → ((j : ℕ) → p j ≡ true → j ≡ k) → only_below n p ≡ Some k
-only_below-some zero p k low here alone = absurd (omega arith)
-only_below-some (suc n) p k low here alone =
-    elim (cases_Bool (p n)) [
-      | inl e ↦
-          let is : n ≡ k = alone n e in
-          let none : each_below n (λ j. not (p j)) ≡ true = each_below-from n (λ j. not (p j)) (λ j under. off j (omega arith)) in
-          rw (e, none) (ap (λ x. Some x) is)
-      | inr e ↦
-          let under : k < n = elim (cases_lt k n) [ inl less ↦ less | inr over ↦ absurd (true≢false (sym here ∙ ap p (last k over low) ∙ e)) ] in
-          rw e (only_below-some n p k under here alone)
-    ]
-  where
-    off : (j : ℕ) → (j ≡ k → ⊥) → not (p j) ≡ true
-    off j other = elim (cases_Bool (p j)) [ inl on ↦ absurd (other (alone j on)) | inr out ↦ rw out ]
-
-    last : (k : ℕ) → n ≤ k → k < suc n → k ≡ n
-    last k over low = omega arith
-
-pub only_below-here : (n : ℕ) (p : ℕ → Bool) (k : ℕ) → only_below n p ≡ Some k → (k < n) × (p k ≡ true)
-only_below-here zero p k only = cc
-only_below-here (suc n) p k only =
-    elim (cases_Bool (p n)) [
-      | inl e ↦ at_last e (each_below n (λ j. not (p j))) (rw e at only)
-      | inr e ↦ let rest = only_below-here n p k (rw e at only) in (omega (arith, rest.0), rest.1)
-    ]
-  where
-    at_last : p n ≡ true → (b : Bool) → (if b then Some n else None) ≡ Some k → (k < suc n) × (p k ≡ true)
-    at_last e true is = let same : n ≡ k = cc in (omega arith, ap p (sym same) ∙ e)
-    at_last e false is = cc
+use Rattle.rf_propagate.proofs.LineLaws.{low_of}
+use Rattle.rf_log.proofs.BoxLaws.{only_below-is, only_below-from, only_below-sound}
 
 -- the one index of a set, in the words of a case
 pub single_of : (case : Case) (sets : List (List Bool)) (c k : ℕ) → sizes sets ≡ counts_of case → IsOnly (get_or sets c []) k
     → (only_index case (has sets) c ≡ Some k) × (k < count_of case c)
 single_of case sets c k counts only =
     let low : k < count_of case c = low_of case sets counts c k only.here in
-    (only_below-some (count_of case c) (has sets c) k low only.here (λ j on. only.alone j on), low)
+    (only_below-from (count_of case c) (has sets c) k low only.here (λ j on. only.alone j on), low)
 
 pub many_of : (case : Case) (sets : List (List Bool)) (c : ℕ) → sizes sets ≡ counts_of case → ((k : ℕ) → IsOnly (get_or sets c []) k → ⊥) → HasMany case (has sets) c
 many_of case sets c counts none = record { many = by (only_index case (has sets) c) refl }
@@ -62,7 +31,7 @@ many_of case sets c counts none = record { many = by (only_index case (has sets)
     by : (o : Option ℕ) → only_index case (has sets) c ≡ o → is_some (only_index case (has sets) c) ≡ false
     by None e = ap is_some e
     by (Some k) e =
-        let here = only_below-here (count_of case c) (has sets c) k e in
+        let here = only_below-sound (count_of case c) (has sets c) k e in
         absurd (none k (record {
           here = here.1;
           alone = λ j on. only_below-is (count_of case c) (has sets c) k j e (low_of case sets counts c j on) on;

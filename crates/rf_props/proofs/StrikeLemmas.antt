@@ -1,31 +1,33 @@
 -- What one instance removes from its target.
-use Rattle.std.proofs.Common.{◌≡◌, ◌≢◌, ◌∙◌, ℕ, zero, suc, ◌+◌, ◌<◌, ◌≤◌, ◌==◌, Bool, true, false, ◌&&◌, List, [], ◌∷◌, length, map, take, drop, get_or, refl, sym, ap, subst, arith}
-use Rattle.std.specs.Prelude.{All, Result, Ok, Err, OnOk, OnErr, Some, None, insert, is_some, pos, if◌then◌else◌}
+use Rattle.std.proofs.Common.{◌≡◌, ◌≢◌, ◌∙◌, ℕ, zero, suc, ◌+◌, ◌<◌, ◌≤◌, ◌==◌, Bool, true, false, List, [], ◌∷◌, length, map, take, drop, get_or, refl, sym, ap, subst, arith, All, Result}
+use Rattle.std.proofs.Common.{Ok, Err, OnOk, OnErr, Some, insert, is_some, pos, true≢false, ne_eqb, get_or-take}
 use Rattle.std.specs.List.{list_all}
 use Rattle.std.specs.Option.{unwrap_or}
 use Rattle.std.proofs.Math.Path.{fun_ext}
-use Rattle.std.proofs.lemmas.Bool.{and_parts, true≢false, ne_eqb}
+use Rattle.std.proofs.lemmas.Bool.{and_parts}
 use Rattle.std.proofs.lemmas.Bool.Decides.{nat_tests}
-use Rattle.std.proofs.lemmas.List.{get_or-take}
 use Rattle.std.proofs.lemmas.List.Elements.{All-append, All-take, All-drop, All-cons}
 use Rattle.rf_terms.specs.declared.kind.Kind.{Kind}
 use Rattle.rf_terms.specs.Kinds.{roles_of}
 use Rattle.rf_terms.specs.Windows.{Breaks}
 use Rattle.rf_log.specs.declared.hint.Hint.{Hint}
 use Rattle.rf_log.specs.declared.hint.Hint.TheVariants.{Rule}
-use Rattle.rf_log.specs.Case.{Case, count_of, counts_of, freq_of, margin_of, is_instance, is_among, are_distinct, is_in_order, are_together}
+use Rattle.rf_log.specs.Case.{Case, count_of, counts_of, freq_of, margin_of, is_instance, is_among}
 use Rattle.rf_log.specs.Box.{Box, between, only_index, without}
 use Rattle.rf_log.specs.Hints.{Line, is_ruled_out}
 use Rattle.rf_zones.specs.declared.mask.TheConstants.{MAX_CARRIERS}
 use Rattle.rf_domain.specs.Sets.{size_of}
 use Rattle.rf_trail.specs.declared.entry.Entry.{Entry}
 use Rattle.rf_trail.specs.Trace.{Trace, has_of}
-use Rattle.rf_trail.proofs.TraceLemmas.{has_size}
+use Rattle.rf_trail.proofs.TraceLaws.{has_size}
 use Rattle.rf_propagate.specs.Laws.{Extends, same, more, IsJustified}
 use Rattle.rf_props.specs.Sweeps.{left, sole_freq, AreFixed, IsClear, KeepsRows, AreBroken}
 use Rattle.rf_props.proofs.CountLemmas.{count_at, count_any}
 use Rattle.rf_props.proofs.InsertLemmas.{distinct_insert}
 use Rattle.rf_props.proofs.InstanceLemmas.{breaks_if, breaks_then, ruled_out, clear_unbroken}
+use Rattle.rf_base.proofs.OptionLaws.{if_true}
+use Rattle.rf_log.proofs.CaseLaws.{instance_distinct}
+use Rattle.rf_log.proofs.BoxLaws.{without_gone}
 
 pub known_insert : (n : ℕ) (others : List ℕ) (place target : ℕ) → All (λ c. c < n) others → target < n → All (λ c. c < n) (insert others place target)
 known_insert n others place target known low =
@@ -40,14 +42,8 @@ pub sized_left : (case : Case) (t : Trace) → t.counts ≡ counts_of case → (
 sized_left case t counts c k here =
     omega (arith, has_size t.counts t.entries c k here, ap (λ ns. size_of ns c) counts, count_any case c)
 
-pub distinct_of : (case : Case) (kind : Kind) (roles : List ℕ) → is_instance case kind roles ≡ true → are_distinct roles ≡ true
-distinct_of case kind roles good =
-    let parts = and_parts ((length roles == roles_of kind) && list_all _ roles && are_distinct roles && is_in_order kind roles) (are_together case roles) good in
-    let front = and_parts ((length roles == roles_of kind) && list_all _ roles && are_distinct roles) (is_in_order kind roles) parts.0 in
-    (and_parts ((length roles == roles_of kind) && list_all _ roles) (are_distinct roles) front.0).1
-
 pub apart_of : (case : Case) (kind : Kind) (others : List ℕ) (place target : ℕ) → is_instance case kind (insert others place target) ≡ true → is_among others target ≡ false
-apart_of case kind others place target good = distinct_insert others place target (distinct_of case kind (insert others place target) good)
+apart_of case kind others place target good = distinct_insert others place target (instance_distinct case kind (insert others place target) good)
 
 pub clear_by : (case : Case) (t : Trace) (kind : Kind) (place : ℕ) (others freqs : List ℕ) (target : ℕ) → t.counts ≡ counts_of case
     → target < length case.carriers → AreFixed case (left t) others freqs
@@ -112,12 +108,6 @@ rows_after old new others target lo hi hint apart (Ok x) is none = record {
 }
 rows_after old new others target lo hi hint apart (Err x) none is = record { each = λ o among. ap (λ t. left t o) is }
 
-pub none_left : {b : Bool} → b ≡ true → b ≡ false → ⊥
-none_left e f = true≢false (sym e ∙ f)
-
-gone_from : (box : Box) (target : ℕ) (gone : ℕ → Bool) (k : ℕ) → gone k ≡ true → without box target gone target k ≡ false
-gone_from box target gone k e = grind (arith, nat_tests)
-
 pub clear_after : {A E : Type 0} (case : Case) (old new : Trace) (kind : Kind) (place : ℕ) (others freqs : List ℕ) (target lo hi : ℕ) (hint : Hint)
     → old.counts ≡ counts_of case → target < length case.carriers → is_among others target ≡ false → AreFixed case (left old) others freqs
     → AreBroken case kind place (insert others place target) freqs target lo hi
@@ -128,12 +118,9 @@ clear_after case old new kind place others freqs target lo hi hint counts known 
     fixed_kept case (left old) (left now) others freqs (λ o among. other_row (left old) target lo hi o (among_other others target o apart among)) fixed in
     let clear : IsClear case (left now) kind (insert others place target) target =
     clear_by case now kind place others freqs target counts known fixed' (λ k here low breaking.
-    true≢false (sym here ∙ gone_from (left old) target (between lo hi) k (broken.all k low breaking))) in
+    true≢false (sym here ∙ without_gone (left old) target (between lo hi) k (broken.all k low breaking))) in
     subst (λ (t : Trace). IsClear case (left t) kind (insert others place target) target) (sym is) clear
 clear_after case old new kind place others freqs target lo hi hint counts known apart fixed broken (Err x) none = none
-
-if_true : {A : Type 0} (t : Bool) (x : A) → t ≡ true → (if t then Some x else None) ≡ Some x
-if_true t x e = subst (λ (b : Bool). (if b then Some x else None) ≡ Some x) (sym e) refl
 
 at_place : (others : List ℕ) (place target : ℕ) → place ≤ length others → get_or (insert others place target) place 0 ≡ target
 at_place [] place target low = let e : place ≡ 0 = omega arith in rw e refl
@@ -158,7 +145,7 @@ rule_is case lines t kind place others freqs roles target lo hi counts known low
       is = refl;
       after = without box (get_or roles place 0) (between lo hi);
       works = if_true _ _ out';
-      gone = λ k inside. rw carrier (gone_from box target (between lo hi) k inside);
+      gone = λ k inside. rw carrier (without_gone box target (between lo hi) k inside);
       own = (carrier, refl, refl, low, zeros);
       ordered = broken.ordered;
       in_range = omega (arith, broken.known, count_at case target 0 known);

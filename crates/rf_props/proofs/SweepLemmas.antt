@@ -1,59 +1,27 @@
 -- What a sweep keeps as it goes on.
-use Rattle.std.proofs.Common.{
-  ◌≡◌,
-  ◌∙◌,
-  ℕ,
-  suc,
-  ◌+◌,
-  ◌-◌,
-  ◌<◌,
-  ◌≤◌,
-  ◌==◌,
-  Bool,
-  true,
-  false,
-  List,
-  [],
-  ◌∷◌,
-  ◌++◌,
-  length,
-  get_or,
-  take,
-  set,
-  refl,
-  sym,
-  ap,
-  subst,
-  inl,
-  inr,
-  arith,
-  length-append,
-  append_assoc,
-}
-use Rattle.std.specs.Prelude.{insert, is_some, nat_lt, max, pos, ℤ, ◌≤ℤ◌, ◌↔◌}
+use Rattle.std.proofs.Common.{◌≡◌, ◌∙◌, ℕ, suc, ◌+◌, ◌-◌, ◌<◌, ◌≤◌, ◌==◌, Bool, true, false, List, [], ◌∷◌, ◌++◌, length, get_or, take, set, refl, sym, ap, subst, inl, inr, arith}
+use Rattle.std.proofs.Common.{length-append, append_assoc, insert, is_some, nat_lt, pos, ℤ, ◌≤ℤ◌, ◌↔◌, true≢false, ltb-true, append-nil}
 use Rattle.std.specs.List.{list_all}
-use Rattle.std.proofs.lemmas.Bool.{cases_Bool, cases_lt, and_parts, and_from, and_left, true≢false, ltb-true}
+use Rattle.std.proofs.lemmas.Bool.{cases_Bool, cases_lt, and_parts, and_from, and_left}
 use Rattle.std.proofs.lemmas.Bool.Decides.{nat_tests}
-use Rattle.std.proofs.lemmas.List.{append-nil, get_or_past, get_or_default, take_more_set}
+use Rattle.std.proofs.lemmas.List.{get_or_past, get_or_default, take_more_set}
 use Rattle.std.proofs.lemmas.List.Folds.{list_all-append}
 use Rattle.rf_terms.specs.declared.kind.Kind.{Kind}
 use Rattle.rf_terms.specs.declared.kind.Kind.TheVariants.{Spacing}
-use Rattle.rf_terms.specs.declared.kind.Margin.{Margin}
-use Rattle.rf_terms.specs.declared.kind.Margin.TheVariants.{Spacing as OfSpacing}
 use Rattle.rf_terms.specs.Kinds.{roles_of}
 use Rattle.rf_terms.specs.Kinds as table
 use Rattle.rf_terms.specs.Windows.{Breaks}
-use Rattle.rf_log.specs.Case.{Case, Carrier, no_carrier, count_of, counts_of, freq_of, asked, asked_by, margin_of, is_among}
+use Rattle.rf_log.specs.Case.{Case, Carrier, no_carrier, count_of, counts_of, freq_of, asked_by, margin_of, is_among}
 use Rattle.rf_log.specs.Box.{Box, only_index}
-use Rattle.rf_log.proofs.Instances.{known_roles}
+use Rattle.rf_log.proofs.CaseLaws.{known_roles, instance_distinct, among_all}
 use Rattle.rf_trail.specs.Trace.{Trace}
-use Rattle.rf_domain.proofs.Counting.{lt_cases}
 use Rattle.rf_props.specs.Flags.{is_flagged, HaveFew, AreFlagged, AreFresh}
 use Rattle.rf_props.specs.Sweeps.{left, AreFixed, IsClear, IsSwept, IsKindDone, IsReach, IsReachOf, BreaksWithin, HasNoneOf, HasNoneWithin, KeepsRows, HaveMany}
 use Rattle.rf_props.proofs.InsertLemmas.{all_in_insert, among_others, distinct_others, get_insert, not_distinct}
 use Rattle.rf_props.proofs.InstanceLemmas.{clear_unbroken}
-use Rattle.rf_props.proofs.StrikeLemmas.{sized_left, distinct_of, only_same, fixed_kept, clear_by}
-use Rattle.rf_props.proofs.KeptLemmas.{GoesOn, stays, goes_on, left_earlier, clear_less, swept_on, many_clear, among_all}
+use Rattle.rf_props.proofs.StrikeLemmas.{sized_left, only_same, fixed_kept, clear_by}
+use Rattle.rf_props.proofs.KeptLemmas.{GoesOn, stays, goes_on, left_earlier, clear_less, clear_flagged, swept_on, many_clear}
+use Rattle.rf_base.proofs.NumberLaws.{lt_cases}
 
 -- the strikes at the first so many targets
 pub record Striking (case : Case) (kind : Kind) (place : ℕ) (others freqs : List ℕ) (start now : Trace) (upto : ℕ) : Type 0 where
@@ -69,7 +37,8 @@ clear_kept {case} {mid} {now} next counts kind place others c rows clear =
     (λ o among other some. sym (only_same case (left mid) (left now) o (rows.each o (among_others others place c o among other)))) clear
 
 pub striking_more : {case : Case} {kind : Kind} {place : ℕ} {others freqs : List ℕ} {start mid now : Trace} {i : ℕ} → Striking case kind place others freqs start mid i
-    → mid.counts ≡ counts_of case → GoesOn case mid now → KeepsRows others mid now → IsClear case (left now) kind (insert others place i) i → Striking case kind place others freqs start now (i + 1)
+    → mid.counts ≡ counts_of case → GoesOn case mid now → KeepsRows others mid now → IsClear case (left now) kind (insert others place i) i → Striking case kind place others freqs
+    start now (i + 1)
 striking_more {case} {kind} {place} {others} {freqs} {start} {mid} {now} {i} so counts next rows clear = record {
   on = goes_on so.on next;
   fixed = fixed_kept case (left mid) (left now) others freqs rows.each so.fixed;
@@ -106,13 +75,10 @@ swept_whole case has flags kind place others size clear = record {
 
 pub struck_all : (case : Case) (flags : List Bool) (kind : Kind) (place : ℕ) (others freqs : List ℕ) (start now : Trace) (n : ℕ) → Striking case kind place others freqs start now n
     → now.counts ≡ counts_of case → length case.carriers ≤ n → length others + 1 ≡ roles_of kind → IsSwept case (left now) flags kind place others
-struck_all case flags kind place others freqs start now n so counts all size = swept_whole case (left now) flags kind place others size (λ c. at c)
-  where
-    at : (c : ℕ) → IsClear case (left now) kind (insert others place c) c
-    at c = elim (cases_lt c n) [
-      | inl low ↦ so.clear c low
-      | inr beyond ↦ clear_beyond case now kind (insert others place c) c counts (omega arith)
-    ]
+struck_all case flags kind place others freqs start now n so counts all size = swept_whole case (left now) flags kind place others size (λ c. elim (cases_lt c n) [
+  | inl low ↦ so.clear c low
+  | inr beyond ↦ clear_beyond case now kind (insert others place c) c counts (omega arith)
+])
 
 -- the margin of an instance is not beyond the reach
 pub margin_reach : (case : Case) (kind : Kind) (reach : ℕ) (roles : List ℕ) → IsReach case kind reach → margin_of case kind roles ≤ reach
@@ -144,14 +110,11 @@ clear_within case t kind place others freqs lo hi c counts known fixed within no
 unbroken_swept : (case : Case) (t : Trace) (flags : List Bool) (kind : Kind) (place reach : ℕ) (others freqs : List ℕ) → t.counts ≡ counts_of case
     → length others + 1 ≡ roles_of kind → AreFixed case (left t) others freqs → IsReachOf case kind place others reach
     → ((c k : ℕ) → c < length case.carriers → left t c k ≡ true → Breaks kind place freqs reach (pos (freq_of case c k)) → ⊥) → IsSwept case (left t) flags kind place others
-unbroken_swept case t flags kind place reach others freqs counts size fixed most none = swept_whole case (left t) flags kind place others size (λ c. at c)
-  where
-    at : (c : ℕ) → IsClear case (left t) kind (insert others place c) c
-    at c = elim (cases_lt c (length case.carriers)) [
-      | inl known ↦ clear_by case t kind place others freqs c counts known fixed
-          (λ k here low broken. none c k known here (omega (arith, broken, most.each c)))
+unbroken_swept case t flags kind place reach others freqs counts size fixed most none =
+    swept_whole case (left t) flags kind place others size (λ c. elim (cases_lt c (length case.carriers)) [
+      | inl known ↦ clear_by case t kind place others freqs c counts known fixed (λ k here low broken. none c k known here (omega (arith, broken, most.each c)))
       | inr beyond ↦ clear_beyond case t kind (insert others place c) c counts beyond
-    ]
+    ])
 
 pub harmless_swept : (case : Case) (t : Trace) (flags : List Bool) (kind : Kind) (place reach : ℕ) (others freqs : List ℕ) → t.counts ≡ counts_of case
     → length others + 1 ≡ roles_of kind → AreFixed case (left t) others freqs → IsReachOf case kind place others reach
@@ -215,7 +178,8 @@ sweeping_more {case} {flags} {kind} {place} {first} {carrier} {start} {mid} {now
 -- a carrier that is passed over
 pub sweeping_past : {case : Case} {flags : List Bool} {kind : Kind} {place : ℕ} {first : List ℕ} {carrier : ℕ → ℕ} {start now : Trace} {i : ℕ}
     → Sweeping case flags kind place first carrier start now i
-    → now.counts ≡ counts_of case → HaveFew (left now) flags → IsSwept case (left now) flags kind place (first ++ carrier i ∷ []) → Sweeping case flags kind place first carrier start now (i + 1)
+    → now.counts ≡ counts_of case → HaveFew (left now) flags → IsSwept case (left now) flags kind place (first ++ carrier i ∷ []) → Sweeping case flags kind place first carrier
+    start now (i + 1)
 sweeping_past {case} {now = now} so counts few swept = sweeping_more so counts few (stays case now) swept
 
 among_last : (first rest : List ℕ) (c : ℕ) → is_among ((first ++ c ∷ []) ++ rest) c ≡ true
@@ -225,27 +189,23 @@ among_last (x ∷ xs) rest c = elim (cases_Bool (x == c)) [ inl here ↦ rw here
 -- one that isn't flagged
 pub unflagged_swept : (case : Case) (t : Trace) (flags : List Bool) (kind : Kind) (place : ℕ) (first : List ℕ) (r : ℕ) → t.counts ≡ counts_of case → is_flagged flags r ≡ false
     → IsSwept case (left t) flags kind place (first ++ r ∷ [])
-unflagged_swept case t flags kind place first r counts off = record { each = λ rest c whole flagged. at rest c flagged }
-  where
-    at : (rest : List ℕ) (c : ℕ) → AreFlagged case (left t) flags ((first ++ r ∷ []) ++ rest) → IsClear case (left t) kind (insert ((first ++ r ∷ []) ++ rest) place c) c
-    at rest c flagged = elim (cases_Bool (list_all (λ o. is_some (only_index case (left t) o)) ((first ++ r ∷ []) ++ rest))) [
-      | inr many ↦ many_clear case (left t) kind place ((first ++ r ∷ []) ++ rest) c (sized_left case t counts) many
-      | inl all ↦
-          let among = among_last first rest r in
-          absurd (true≢false (sym (flagged.each r among (among_all (λ x. is_some (only_index case (left t) x)) ((first ++ r ∷ []) ++ rest) r all among)) ∙ off))
-    ]
+unflagged_swept case t flags kind place first r counts off = record {
+  each = λ rest c whole flagged.
+      clear_flagged case (left t) flags kind place ((first ++ r ∷ []) ++ rest) c (sized_left case t counts) flagged
+      (λ all. absurd (true≢false (sym (all r (among_last first rest r)) ∙ off)));
+}
 
 -- one that has a role already
 pub twice_swept : (case : Case) (t : Trace) (flags : List Bool) (kind : Kind) (place : ℕ) (first : List ℕ) (r : ℕ) → t.counts ≡ counts_of case → is_among first r ≡ true
     → IsSwept case (left t) flags kind place (first ++ r ∷ [])
-twice_swept case t flags kind place first r counts among = record { each = λ rest c whole flagged. twice rest c }
-  where
-    twice : (rest : List ℕ) (c : ℕ) → IsClear case (left t) kind (insert ((first ++ r ∷ []) ++ rest) place c) c
-    twice rest c = clear_unbroken case (left t) kind (insert ((first ++ r ∷ []) ++ rest) place c) c (λ k here. sized_left case t counts c k here)
-        (λ k here good sole broken. not_distinct first rest r among (distinct_others ((first ++ r ∷ []) ++ rest) place c (distinct_of case kind (insert ((first ++ r ∷ []) ++ rest) place c) good)))
+twice_swept case t flags kind place first r counts among = record {
+  each = λ rest c whole flagged. clear_unbroken case (left t) kind (insert ((first ++ r ∷ []) ++ rest) place c) c (λ k here. sized_left case t counts c k here)
+      (λ k here good sole broken. not_distinct first rest r among (distinct_others ((first ++ r ∷ []) ++ rest) place c (instance_distinct case kind (insert ((first ++ r ∷ []) ++ rest) place c) good)));
+}
 
 -- one that takes the last open role, and is known as all before it are
-pub known_swept : (case : Case) (t : Trace) (flags known : List Bool) (kind : Kind) (place : ℕ) (first : List ℕ) (r : ℕ) → IsSwept case (left t) known kind place [] → length first + 2 ≡ roles_of kind
+pub known_swept : (case : Case) (t : Trace) (flags known : List Bool) (kind : Kind) (place : ℕ) (first : List ℕ) (r : ℕ) → IsSwept case (left t) known kind place []
+    → length first + 2 ≡ roles_of kind
     → list_all (is_flagged known) first ≡ true → is_flagged known r ≡ true → IsSwept case (left t) flags kind place (first ++ r ∷ [])
 known_swept case t flags known kind place first r done last all one = record { each = λ rest c whole flagged. at rest c whole }
   where

@@ -1,18 +1,17 @@
 -- A theory is told by its ordinary fields.
-use Rattle.std.proofs.Common.{◌≡◌, ◌∙◌, ℕ, zero, suc, ◌+◌, ◌<◌, ◌≤◌, ◌==◌, List, [], ◌∷◌, Bool, true, false, length, get_or, refl, sym, ap, subst, arith, inl, inr}
+use Rattle.std.proofs.Common.{◌≡◌, ◌∙◌, ℕ, suc, ◌+◌, ◌<◌, ◌==◌, List, [], ◌∷◌, Bool, length, get_or, refl, sym, ap, subst, arith, inl, inr}
 use Rattle.std.specs.Prelude.{Result, Ok, Err, OnErr, Some, None, Contains, if◌then◌else◌}
 use Rattle.std.proofs.lemmas.Bool.{cases_Bool, cases_lt, cases_eq}
 use Rattle.std.proofs.lemmas.List.{get_or-map, get_or_default, length-map}
 use Rattle.std.specs.List.Sorted.{IsStrictlyIncreasing}
 use Rattle.std.proofs.Props.{props}
-use Rattle.rf_log.specs.Case.{counts_of}
+use Rattle.rf_log.specs.Case.{counts_of, Case}
 use Rattle.rf_log.specs.declared.cond.Cond.{Cond}
-use Rattle.rf_log.specs.Case.{Case}
 use Rattle.rf_log.specs.Hints.{Line, line_at}
 use Rattle.rf_problem.specs.Problem.{case_of}
 use Rattle.rf_propagate.specs.Laws.{AreInRange, AreKnown, numbers_of}
 use Rattle.rf_propagate.specs.Openings.{AllFit}
-use Rattle.rf_propagate.proofs.LineLemmas.{found_at, not_found}
+use Rattle.rf_propagate.proofs.LineLaws.{found_at, not_found}
 use Rattle.rf_props.specs.Ranges.{AreBelow}
 use Rattle.rf_props.proofs.RangeLemmas.{rising_le}
 use Rattle.rf_props.specs.declared.theory.ProblemTheory.{ProblemTheory}

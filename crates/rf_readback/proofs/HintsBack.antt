@@ -1,7 +1,6 @@
 -- Conditions and hints that are written are read back with the same names.
-use Rattle.std.proofs.Common.{◌≡◌, ◌∙◌, ◌+◌, ◌<◌, ◌≤◌, ℕ, zero, suc, List, [], ◌∷◌, ◌++◌, Bool, true, false, length, take, map, refl, sym, arith, ap, Some, append-nil, append_assoc, length-set}
-use Rattle.std.proofs.Common.{length-take}
-use Rattle.std.specs.Prelude.{codes, decimal, slice_set}
+use Rattle.std.proofs.Common.{◌≡◌, ◌∙◌, ◌+◌, ◌<◌, ◌≤◌, ℕ, zero, suc, List, [], ◌∷◌, ◌++◌, Bool, true, false, length, take, map, refl, sym, arith, ap, Some, append-nil, append_assoc}
+use Rattle.std.proofs.Common.{length-set, length-take, codes, decimal, slice_set}
 use Rattle.std.specs.List.{All, AllZip, flat_map}
 use Rattle.std.specs.Str.{bytes_eq}
 use Rattle.std.proofs.lemmas.List.{take_more_set}
@@ -19,7 +18,7 @@ use Rattle.rf_log.specs.Operands.{range_in, place_in}
 use Rattle.rf_log.specs.Reading.{cond_by, conds_in, hint_by, hints_in, roles_in, target_range_in, rule_in, no_roles}
 use Rattle.rf_readback.specs.Same.{IsSameCarrier, IsSameCond, IsSameHint}
 use Rattle.rf_terms.proofs.KindLaws.{four_roles}
-use Rattle.rf_readback.proofs.OperandsBack.{Says, name_back, number_back, side_back, kind_back, target_back}
+use Rattle.rf_readback.proofs.OperandLaws.{Says, name_back, number_back, side_back, kind_back, target_back}
 use Rattle.rf_readback.proofs.NamesBack.{IsGrown, IsNumbered, grown_same, grown_then, numbered, same_numbered, carrier_kept, cond_kept, hint_kept}
 
 side_no_end : (inside : Bool) → bytes_eq (side_text inside) (codes ";") ≡ false

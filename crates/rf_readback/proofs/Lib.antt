@@ -1,6 +1,6 @@
-pub mod WordsBack
-pub mod OperandsBack
-pub mod NamesBack
-pub mod HintsBack
-pub mod LinesBack
-pub mod LogBack
+pub mod OperandLaws
+pub mod WordLaws
+mod HintsBack
+mod LinesBack
+mod LogBack
+mod NamesBack

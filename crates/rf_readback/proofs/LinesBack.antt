@@ -1,6 +1,5 @@
 -- A line that is written is read back with the same names, and ends no log.
-use Rattle.std.proofs.Common.{◌≡◌, ◌+◌, ◌<◌, ◌≤◌, ℕ, List, [], ◌∷◌, ◌++◌, true, false, length, take, map, refl, arith, Some, append_assoc, length-append}
-use Rattle.std.specs.Prelude.{codes, decimal}
+use Rattle.std.proofs.Common.{◌≡◌, ◌+◌, ◌<◌, ◌≤◌, ℕ, List, [], ◌∷◌, ◌++◌, true, false, length, take, map, refl, arith, Some, append_assoc, length-append, codes, decimal}
 use Rattle.std.specs.List.{All, flat_map, list_all}
 use Rattle.std.specs.Str.{bytes_eq}
 use Rattle.std.proofs.lemmas.List.Elements.{All-head, All-tail}
@@ -18,9 +17,9 @@ use Rattle.rf_log.specs.Names.{number_of_name, names_with}
 use Rattle.rf_log.specs.Reading.{line_by, line_in}
 use Rattle.rf_log.specs.Words.{words_in}
 use Rattle.rf_readback.specs.Same.{IsSameLine}
-use Rattle.rf_readback.proofs.WordsBack.{is_word, words_back, spaced_all, spaced_both, spaced_long}
+use Rattle.rf_readback.proofs.WordLaws.{is_word, words_back, spaced_all, spaced_both, spaced_long}
 use Rattle.rf_terms.proofs.KindLaws.{four_roles}
-use Rattle.rf_readback.proofs.OperandsBack.{number_back, side_back, cut_back, kind_back}
+use Rattle.rf_readback.proofs.OperandLaws.{number_back, side_back, cut_back, kind_back}
 use Rattle.rf_readback.proofs.NamesBack.{IsGrown, grown_same, grown_then, same_numbered, conds_kept}
 use Rattle.rf_readback.proofs.HintsBack.{carrier_back, carrier_numbered, conds_back, hints_back}
 

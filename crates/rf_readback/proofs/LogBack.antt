@@ -1,7 +1,6 @@
 -- What is written of a log is read back, up to a line that ends it.
-use Rattle.std.proofs.Common.{◌≡◌, ◌∙◌, ◌+◌, ◌⊎◌, inl, inr, ℕ, List, [], ◌∷◌, ◌++◌, Bool, true, false, ◌||◌, length, map, refl, sym, arith, ap, subst, Some, None, Result, Ok, Err, append-nil}
-use Rattle.std.proofs.Common.{append_assoc}
-use Rattle.std.specs.Prelude.{codes, is_some}
+use Rattle.std.proofs.Common.{◌≡◌, ◌∙◌, ◌+◌, ◌⊎◌, inl, inr, ℕ, List, [], ◌∷◌, ◌++◌, Bool, true, false, ◌||◌, length, map, refl, sym, arith, ap, subst, Some, None, Result, Ok, Err}
+use Rattle.std.proofs.Common.{append-nil, append_assoc, codes, is_some}
 use Rattle.std.specs.declared.option.Option.{Option}
 use Rattle.std.specs.Char.{is_ascii_digit}
 use Rattle.std.specs.List.{All, AllZip, flat_map, list_all, join_with_byte}
@@ -21,10 +20,10 @@ use Rattle.rf_log.specs.Reading.{line_in}
 use Rattle.rf_log.specs.Words.{lines_in, words_in}
 use Rattle.rf_readback.specs.Law.{IsEnding, IsLineEnd, WrittenReadsBack}
 use Rattle.rf_readback.specs.Same.{IsSameLine}
-use Rattle.rf_readback.proofs.WordsBack.{is_inner, is_word, inner_both, inner_word, inner_words, lines_after, lines_last}
-use Rattle.rf_readback.proofs.OperandsBack.{digits_word}
+use Rattle.rf_readback.proofs.WordLaws.{is_inner, is_word, inner_both, inner_word, inner_words, lines_after, lines_last}
 use Rattle.rf_readback.proofs.NamesBack.{IsGrown, grown_same, grown_then, line_kept}
 use Rattle.rf_readback.proofs.LinesBack.{first_word, other_words, line_bytes, text_is, line_valid, line_back, no_ending}
+use Rattle.rf_base.proofs.WordLaws.{digit_bytes}
 
 -- ---- the line that ends a log
 
@@ -37,7 +36,7 @@ number_digits word h = grind (arith, nat_tests)
 
 number_words : (words : List (List ℕ)) → is_some (only number_of words) ≡ true → list_all is_word words ≡ true
 number_words [] h = absurd (cc)
-number_words (word ∷ []) h = rw (digits_word word (number_digits word h)) refl
+number_words (word ∷ []) h = rw (digit_bytes word (number_digits word h)) refl
 number_words (word ∷ next ∷ words) h = absurd (cc)
 
 spent_words : (words : List (List ℕ)) → is_spent words ≡ true → list_all is_word words ≡ true

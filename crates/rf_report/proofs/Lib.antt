@@ -1,2 +1,2 @@
-pub mod CsvLemmas
-pub mod LineLemmas
+mod CsvLemmas
+mod LineLemmas

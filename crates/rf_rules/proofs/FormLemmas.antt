@@ -1,54 +1,32 @@
 -- Lemmas on forms over carriers.
-use Rattle.std.proofs.Common.{◌≡◌, ◌≤◌, ◌<◌, ◌+◌, ◌*◌, ◌^◌, ℕ, ℤ, pos, suc, ◌+ℤ◌, ◌*ℤ◌, unsigned_abs, List, [], ◌∷◌, ◌++◌, map, length, get_or, refl, ap, sym, ◌∙◌, arith, inl, inr, to_z, of_z, w64}
-use Rattle.std.specs.Prelude.{All, Option, None, unwrap_or, max, ◌-◌, true, ◌==◌}
+use Rattle.std.proofs.Common.{◌≡◌, ◌≤◌, ◌+◌, ℕ, ℤ, pos, ◌+ℤ◌, ◌*ℤ◌, unsigned_abs, List, [], ◌∷◌, ◌++◌, map, length, get_or, refl, ap, sym, ◌∙◌, arith, inl, inr}
+use Rattle.std.specs.Prelude.{All, Option, None, unwrap_or, max, ◌-◌, true, ◌==◌, find}
 use Rattle.std.specs.List.{list_all, slice_get}
-use Rattle.std.proofs.lemmas.Int.{ints, unsigned_abs-mul, to_z-of_z, fits_signed_from_abs}
+use Rattle.std.proofs.lemmas.Int.{ints, unsigned_abs-mul}
 use Rattle.std.proofs.lemmas.Nat.{mul-le}
-use Rattle.std.proofs.lemmas.List.{map-append, length-map, get_or-map, get_or_past, get_or_append_left, get_or_at}
+use Rattle.std.proofs.lemmas.List.{map-append, length-map, get_or_past, get_or_append_left, get_or_at}
 use Rattle.std.proofs.lemmas.List.Folds.{list_all-map}
-use Rattle.std.proofs.lemmas.List.Sums.{AllPass-from_list_all}
+use Rattle.rf_rules.proofs.PlanLaws.{each-at}
 use Rattle.std.proofs.lemmas.Bool.Decides.{nat_tests}
 use Rattle.std.proofs.lemmas.Bool.{cases_lt}
 use Rattle.std.proofs.lemmas.Option.{slice_get_past}
-use Rattle.std.specs.Prelude.{find}
 use Rattle.std.specs.Option.{option_and_then, option_map_or}
 use Rattle.rf_profiles.specs.Profile as profile
 use Rattle.rf_show.specs.declared.carrier.Carrier.{Carrier}
 use Rattle.std.proofs.Math.IntN.{zero-*ℤ}
-use Rattle.rf_terms.proofs.KindLaws.{four_roles, two_roles}
-use Rattle.rf_terms.specs.Kinds.{AllSmall, coefficients_of, roles_of}
-use Rattle.rf_terms.specs.Forms.{AreFrequencies, form, value_of}
+use Rattle.rf_terms.specs.Kinds.{coefficients_of, roles_of}
+use Rattle.rf_terms.specs.Forms.{form, value_of}
 use Rattle.rf_terms.specs.declared.kind.Kind.{Kind}
 use Rattle.rf_terms.specs.declared.kind.Kind.TheVariants.{Spacing}
 use Rattle.rf_show.specs.Show.{ShowData, is_profile}
 use Rattle.rf_show.specs.Query.{asked, margin_of}
 use Rattle.rf_rules.specs.Tuples.{upto}
 use Rattle.rf_rules.specs.Instances.{IsLimited, distance_of, khz_in, khzs_in}
-use Rattle.rf_rules.specs.Searches.{floor_of, lane_of, last_coefficient}
+use Rattle.rf_rules.specs.Searches.{floor_of, lane_of}
 use Rattle.rf_rules.specs.declared.lane.Lane.{Lane}
-use Rattle.rf_rules.proofs.TupleLemmas.{get_or-upto, length-upto}
-
--- a number that fits is what its bits say
-pub told : (z : ℤ) → unsigned_abs z < 2 ^ 63 → to_z w64 (of_z w64 z) ≡ z
-told z h = to_z-of_z w64 z (fits_signed_from_abs w64 z h)
-
-pub abs-add : (a b : ℤ) → unsigned_abs (a +ℤ b) ≤ unsigned_abs a + unsigned_abs b
-abs-add a b = omega (arith, ints)
 
 pub abs-mul : (c x : ℤ) → unsigned_abs c ≤ 8 → unsigned_abs x ≤ 10000000 → unsigned_abs (c *ℤ x) ≤ 80000000
 abs-mul c x p q = omega (arith, unsigned_abs-mul c x, mul-le (unsigned_abs c) (unsigned_abs x) 8 10000000 p q)
-
--- a form of small coefficients at frequencies is small
-form-bound : (cs : List ℤ) (fs : List ℕ) → AllSmall cs → AreFrequencies fs → unsigned_abs (form cs (map pos fs)) ≤ 80000000 * length cs
-form-bound [] fs small freqs = omega arith
-form-bound (c ∷ cs) [] small freqs = omega arith
-form-bound (c ∷ cs) (f ∷ fs) small freqs =
-    omega (
-      arith,
-      abs-add (c *ℤ pos f) (form cs (map pos fs)),
-      abs-mul c (pos f) (small 0 c (omega arith)).1 (freqs 0 f (omega arith)),
-      form-bound cs fs (λ k d h. small (suc k) d (omega arith)) (λ k d h. freqs (suc k) d (omega arith)),
-    )
 
 form-push : (cs xs : List ℤ) (x : ℤ) → form cs (xs ++ x ∷ []) ≡ form cs xs +ℤ (get_or cs (length xs) (pos 0) *ℤ x)
 form-push [] [] x = sym (ap (λ (k : ℤ). pos 0 +ℤ k) (zero-*ℤ x))
@@ -78,27 +56,12 @@ khz-limited ats c h =
           omega (arith, f)
     ]
 
-pub partial-bound : (kind : Kind) (ats : List (Option ℕ)) (t : List ℕ) → AllSmall (coefficients_of kind) → All IsLimited ats → unsigned_abs (value_of kind (khzs_in ats t)) ≤ 640000000
-partial-bound kind ats t small h =
-    let fs : AreFrequencies (khzs_in ats t) = λ k d p. let e : get_or (khzs_in ats t) k d ≡ khz_in ats (get_or t k 0) = get_or-map (khz_in ats) t k 0 d (omega (arith, p, length-map t (khz_in ats))) in
-    rw e (khz-limited ats (get_or t k 0) h) in
-    omega (arith, form-bound (coefficients_of kind) (khzs_in ats t) small fs, four_roles kind)
-
--- a carrier's lane
-pub lane-is : (show : ShowData) (ats : List (Option ℕ)) (kind : Kind) (lanes : List Lane) (c : ℕ) (d : Lane) → lanes ≡ map (lane_of show ats kind) (upto (length ats)) →
-    c < length ats → get_or lanes c d ≡ lane_of show ats kind c
-lane-is show ats kind lanes c d e h =
-    rw e (get_or-map (lane_of show ats kind) (upto (length ats)) c 0 d (omega (arith, length-upto (length ats), h)) ∙ ap (lane_of show ats kind) (get_or-upto (length ats) c 0 h))
-
 -- a lane's term is that of the last role
 pub lane-term : (show : ShowData) (ats : List (Option ℕ)) (kind : Kind) (t : List ℕ) (c : ℕ) → length t + 1 ≡ roles_of kind →
     (lane_of show ats kind c).term ≡ get_or (coefficients_of kind) (length t) (pos 0) *ℤ pos (khz_in ats c)
 lane-term show ats kind t c n =
     let i : roles_of kind - 1 ≡ length t = omega (arith, n) in
     ap (λ k. get_or (coefficients_of kind) k (pos 0) *ℤ pos (khz_in ats c)) i
-
-pub lane-bound : (show : ShowData) (ats : List (Option ℕ)) (kind : Kind) (c : ℕ) → AllSmall (coefficients_of kind) → All IsLimited ats → unsigned_abs (lane_of show ats kind c).term ≤ 80000000
-lane-bound show ats kind c small h = abs-mul (last_coefficient kind) (pos (khz_in ats c)) (small (roles_of kind - 1) (pos 0) (omega (arith, two_roles kind))).1 (khz-limited ats c h)
 
 -- the last carrier's asks, and the first's
 pub margin-push : (show : ShowData) (kind : Kind) (t : List ℕ) (c : ℕ) → length t + 1 ≡ roles_of kind → margin_of show kind (t ++ c ∷ []) ≡ max (floor_of show kind (get_or t 0 0)) (asked show kind c)
@@ -122,9 +85,6 @@ first-le show _ c = omega arith
 pub floor-spacing : (show : ShowData) (kind : Kind) (c : ℕ) → kind ≡ Spacing → asked show kind c ≡ floor_of show kind c
 floor-spacing show kind c e = rw e refl
 
-pub lane-same : (a b : ℤ) (m n : ℕ) → a ≡ b → m ≡ n → ◌≡◌ {A = Lane} (record { term = a; needs = m }) (record { term = b; needs = n })
-lane-same a b m n e f = cc
-
 -- where no carrier asks anything, no list of carriers does
 margin-none : (show : ShowData) (kind : Kind) (t : List ℕ) → ((c : ℕ) → asked show kind c ≡ 0) → margin_of show kind t ≡ 0
 margin-none show Spacing t h = omega (arith, h (get_or t 0 0), h (get_or t 1 0))
@@ -140,9 +100,6 @@ pub nothing-asked : (show : ShowData) (ats : List (Option ℕ)) (kind : Kind) (t
 nothing-asked show ats kind t n h =
     let each : list_all (λ c. asked show kind c == 0) (upto (length ats)) ≡ true = sym (list_all-map (λ (l : Lane). l.needs == 0) (lane_of show ats kind) (upto (length ats))) ∙ h in
     margin-none show kind t (λ c. elim (cases_lt c (length ats)) [
-      | inl p ↦ let at : get_or (upto (length ats)) c 0 ≡ c = get_or-upto (length ats) c 0 p in
-          let q = AllPass-from_list_all (λ d. asked show kind d == 0) (upto (length ats)) each c 0 (omega (arith, length-upto (length ats), p)) in
-          let r : (asked show kind c == 0) ≡ true = rw at at q in
-          grind (arith, nat_tests, r)
+      | inl p ↦ let r : (asked show kind c == 0) ≡ true = each-at (λ d. asked show kind d == 0) (length ats) c each p in grind (arith, nat_tests, r)
       | inr p ↦ asked-past show kind c (omega (arith, p, n))
     ])

@@ -1,23 +1,23 @@
-pub mod TallyLemmas
-pub mod TupleLemmas
-pub mod FormLemmas
-pub mod HopelessLemmas
-pub mod SearchLemmas
-pub mod ReadyLemmas
-pub mod AnalysisLemmas
-pub mod GroupLemmas
-pub mod ProductLemmas
-pub mod SizeLemmas
-pub mod FrontLemmas
-pub mod CompanyLemmas
-pub mod PairLemmas
-pub mod PlanLemmas
-pub mod TouchLemmas
-pub mod RisingLemmas
-pub mod OrderLemmas
-pub mod AlikeLemmas
-pub mod CutLemmas
-pub mod MergeLemmas
-pub mod OutsideLemmas
-pub mod RenewalLemmas
-pub mod CountLemmas
+pub mod PlanLaws
+pub mod TupleLaws
+mod AlikeLemmas
+mod AnalysisLemmas
+mod CompanyLemmas
+mod CountLemmas
+mod CutLemmas
+mod FormLemmas
+mod FrontLemmas
+mod GroupLemmas
+mod HopelessLemmas
+mod MergeLemmas
+mod OrderLemmas
+mod OutsideLemmas
+mod PairLemmas
+mod ProductLemmas
+mod ReadyLemmas
+mod RenewalLemmas
+mod RisingLemmas
+mod SearchLemmas
+mod SizeLemmas
+mod TallyLemmas
+mod TouchLemmas

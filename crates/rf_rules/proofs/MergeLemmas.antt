@@ -1,6 +1,7 @@
 -- Lemmas on the walk along two lists that makes one of them.
-use Rattle.std.proofs.Common.{◌≡◌, ◌≤◌, ◌<◌, ◌+◌, ◌-◌, ◌^◌, min, ℕ, suc, zero, Bool, true, false, List, [], ◌∷◌, ◌++◌, length, get_or, take, drop, refl, ap, sym, ◌∙◌, arith, drop-cons, add-one}
+use Rattle.std.proofs.Common.{◌≡◌, ◌≤◌, ◌<◌, ◌+◌, ◌-◌, ◌^◌, min, ℕ, Bool, false, List, [], ◌∷◌, ◌++◌, length, get_or, take, drop, refl, ap, sym, ◌∙◌, arith, drop-cons, add-one}
 use Rattle.std.proofs.lemmas.List.{append_assoc, take_more}
+use Rattle.std.proofs.Math.ListN.{drop_of_length-le}
 use Rattle.rf_rules.specs.Tallies.{Extends, shown_of}
 use Rattle.rf_rules.specs.declared.conflict.Conflict.{Conflict}
 use Rattle.rf_rules.specs.declared.tally.Tally.{Tally}
@@ -8,19 +9,10 @@ use Rattle.rf_rules.proofs.TallyLemmas.{both-more, none-more, same-more}
 use Rattle.rf_rules.specs.Merges.{ahead, behind, merge}
 use Rattle.rf_rules.proofs.CutLemmas.{merge-length, shown-merge}
 
-cons-at : {X : Type 0} (lt : X → X → Bool) (y x : X) (xs ys : List X) (b : Bool) → lt y x ≡ b → merge lt xs (y ∷ ys) ≡ ahead lt y xs ++ y ∷ merge lt (behind lt y xs) ys →
-    merge lt (x ∷ xs) (y ∷ ys) ≡ ahead lt y (x ∷ xs) ++ y ∷ merge lt (behind lt y (x ∷ xs)) ys
-unfolding merge
-cons-at lt y x xs ys true e ih = rw e refl
-cons-at lt y x xs ys false e ih = rw e (ap (λ zs. x ∷ zs) ih)
-
-merge-nothing : {X : Type 0} (lt : X → X → Bool) (ys : List X) → merge lt [] ys ≡ ys
-unfolding merge
-merge-nothing lt ys = refl
-
 merge-cons : {X : Type 0} (lt : X → X → Bool) (y : X) (xs ys : List X) → merge lt xs (y ∷ ys) ≡ ahead lt y xs ++ y ∷ merge lt (behind lt y xs) ys
-merge-cons lt y [] ys = merge-nothing lt (y ∷ ys) ∙ ap (λ zs. y ∷ zs) (sym (merge-nothing lt ys))
-merge-cons lt y (x ∷ xs) ys = cons-at lt y x xs ys (lt y x) refl (merge-cons lt y xs ys)
+unfolding merge
+merge-cons lt y [] ys = refl
+merge-cons lt y (x ∷ xs) ys = grind (arith, merge-cons lt y xs ys)
 
 merge-nil : {X : Type 0} (lt : X → X → Bool) (xs : List X) → merge lt xs [] ≡ xs
 unfolding merge
@@ -53,18 +45,12 @@ walk-more lt kept found rest next i o a b c d h w p e q =
           ∙ w.same;
     }
 
-drop-past : {X : Type 0} (i : ℕ) (xs : List X) → length xs ≤ i → drop i xs ≡ []
-drop-past zero [] h = refl
-drop-past (suc i) [] h = refl
-drop-past zero (x ∷ xs) h = absurd (omega (arith, h))
-drop-past (suc i) (x ∷ xs) h = drop-past i xs (omega (arith, h))
-
 -- what is counted at the end
 pub walk-end : (lt : Conflict → Conflict → Bool) (kept found rest all : List Conflict) (i more total : ℕ) (a b c d : Tally) → length found ≤ i → Walked lt kept found rest i a b →
     Extends b c rest → found ≡ shown_of all → total ≡ length all → more ≡ total - length found → length found ≤ total → d.shown.items ≡ c.shown.items →
     d.total ≡ min (c.total + more) (2 ^ 64 - 1) → Extends a d (merge lt kept all)
 walk-end lt kept found rest all i more total a b c d h w p e f g few s t =
-    let whole : w.done ++ rest ≡ merge lt kept found = ap (λ zs. w.done ++ zs) (sym (ap (merge lt rest) (drop-past i found h) ∙ merge-nil lt rest)) ∙ w.same in
+    let whole : w.done ++ rest ≡ merge lt kept found = ap (λ zs. w.done ++ zs) (sym (ap (merge lt rest) (drop_of_length-le found h) ∙ merge-nil lt rest)) ∙ w.same in
     let q : Extends a c (merge lt kept found) = same-more a c _ _ whole (both-more a b c w.done rest w.extends p) in
     record {
       shown = s ∙ q.shown ∙ ap (λ zs. shown_of (a.shown.items ++ merge lt kept zs)) e ∙ shown-merge lt a.shown.items kept all;
@@ -81,23 +67,19 @@ pub record Ahead (lt : Conflict → Conflict → Bool) (y : Conflict) (kept : Li
 pub ahead-start : (lt : Conflict → Conflict → Bool) (y : Conflict) (kept : List Conflict) (a : Tally) → Ahead lt y kept 0 a a
 ahead-start lt y kept a = record { extends = none-more a; ahead = refl; behind = refl }
 
-ahead-no : (lt : Conflict → Conflict → Bool) (y x : Conflict) (xs : List Conflict) → lt y x ≡ false → ahead lt y (x ∷ xs) ≡ x ∷ ahead lt y xs
-ahead-no lt y x xs e = rw e refl
-
-behind-no : (lt : Conflict → Conflict → Bool) (y x : Conflict) (xs : List Conflict) → lt y x ≡ false → behind lt y (x ∷ xs) ≡ behind lt y xs
-behind-no lt y x xs e = rw e refl
-
 pub ahead-more : (lt : Conflict → Conflict → Bool) (y d : Conflict) (kept : List Conflict) (i : ℕ) (a b c : Tally) → i < length kept → lt y (get_or kept i d) ≡ false →
     Ahead lt y kept i a b → Extends b c (get_or kept i d ∷ []) → Ahead lt y kept (i + 1) a c
 ahead-more lt y d kept i a b c h e w p =
     let x = get_or kept i d in
     let more : drop i kept ≡ x ∷ drop (i + 1) kept = drop-cons kept i d h ∙ ap (λ j. x ∷ drop j kept) (sym (add-one i)) in
+    let ahead-no : ahead lt y (x ∷ drop (i + 1) kept) ≡ x ∷ ahead lt y (drop (i + 1) kept) = rw e refl in
+    let behind-no : behind lt y (x ∷ drop (i + 1) kept) ≡ behind lt y (drop (i + 1) kept) = rw e refl in
     let up : take (i + 1) kept ≡ take i kept ++ x ∷ [] = take_more kept i d h in
     record {
       extends = same-more a c _ _ (sym up) (both-more a b c (take i kept) (x ∷ []) w.extends p);
-      ahead = w.ahead ∙ ap (λ zs. take i kept ++ ahead lt y zs) more ∙ ap (λ zs. take i kept ++ zs) (ahead-no lt y x (drop (i + 1) kept) e) ∙
+      ahead = w.ahead ∙ ap (λ zs. take i kept ++ ahead lt y zs) more ∙ ap (λ zs. take i kept ++ zs) ahead-no ∙
           sym (append_assoc (take i kept) (x ∷ []) (ahead lt y (drop (i + 1) kept))) ∙ ap (λ zs. zs ++ ahead lt y (drop (i + 1) kept)) (sym up);
-      behind = w.behind ∙ ap (behind lt y) more ∙ behind-no lt y x (drop (i + 1) kept) e;
+      behind = w.behind ∙ ap (behind lt y) more ∙ behind-no;
     }
 
 pub all-more : (xs : List Conflict) (i : ℕ) (d : Conflict) (a b c : Tally) → i < length xs → Extends a b (take i xs) → Extends b c (get_or xs i d ∷ []) → Extends a c (take (i + 1) xs)

@@ -1,9 +1,8 @@
 -- Lists of carriers stand in the order of their first carriers, then of their second ones, and so on.
-use Rattle.std.proofs.Common.{◌≡◌, ◌<◌, ◌≤◌, ℕ, suc, zero, true, false, List, [], ◌∷◌, ◌++◌, map, length, refl, ◌∙◌, arith}
-use Rattle.std.specs.Prelude.{◌==◌, nat_lt}
+use Rattle.std.proofs.Common.{◌≡◌, ◌<◌, ◌≤◌, ℕ, suc, zero, List, [], ◌∷◌, ◌++◌, map, length, refl, arith}
 use Rattle.std.proofs.lemmas.Bool.Decides.{nat_tests}
 use Rattle.rf_rules.specs.Tuples.{tuples, upto}
-use Rattle.rf_rules.proofs.TupleLemmas.{begun, begun-more, tuples-suc, tuples-zero, upto-zero}
+use Rattle.rf_rules.proofs.TupleLaws.{begun, begun-more, tuples-suc, tuples-zero, upto-zero}
 use Rattle.rf_rules.specs.Merges.{stands_before}
 use Rattle.rf_rules.proofs.RisingLemmas.{Before, Each, IsRising, each-all, each-append, each-flat, each-from, each-map, rising-append, rising-map}
 
@@ -17,21 +16,8 @@ tuples-long (suc k) xs =
 
 -- ---- their order
 
-before-same : (a : ℕ) (s t : List ℕ) → stands_before (a ∷ s) (a ∷ t) ≡ stands_before s t
-before-same a s t =
-    let no : nat_lt a a ≡ false = grind (arith, nat_tests) in
-    let yes : (a == a) ≡ true = grind (arith, nat_tests) in
-    rw (no, yes) refl
-
-before-less : (a b : ℕ) (s t : List ℕ) → a < b → Before stands_before (a ∷ s) (b ∷ t)
-before-less a b s t h =
-    let yes : nat_lt a b ≡ true = grind (arith, nat_tests) in
-    let no : nat_lt b a ≡ false = grind (arith, nat_tests) in
-    let other : (b == a) ≡ false = grind (arith, nat_tests) in
-    (rw yes refl, rw (no, other) refl)
-
 push-front : (a : ℕ) (s t : List ℕ) → Before stands_before s t → Before stands_before (a ∷ s) (a ∷ t)
-push-front a s t h = (before-same a s t ∙ h.0, before-same a t s ∙ h.1)
+push-front a s t h = (grind (arith, nat_tests, h.0), grind (arith, nat_tests, h.1))
 
 -- a list begins below i
 abbrev BeginsBelow : ℕ → List ℕ → Type 0
@@ -44,7 +30,7 @@ later i j (a ∷ t) h b = omega (arith, h, b)
 
 first-before : (i : ℕ) (s u : List ℕ) → BeginsBelow i s → Before stands_before s (i ∷ u)
 first-before i [] u h = absurd h
-first-before i (a ∷ s) u h = before-less a i s u h
+first-before i (a ∷ s) u h = (grind (arith, nat_tests, h), grind (arith, nat_tests, h))
 
 record Block (k : ℕ) (xs : List ℕ) (i : ℕ) : Type 0 where
   rising : IsRising stands_before (begun k xs (upto i))

@@ -1,16 +1,15 @@
 -- Lists of carriers that have none of a mask are the same among more carriers, where those that are more are of the mask.
-use Rattle.std.proofs.Common.{◌≡◌, ◌≤◌, ◌<◌, ℕ, suc, zero, Bool, true, false, List, [], ◌∷◌, ◌++◌, map, refl, ap, sym, ◌∙◌, arith, inl, inr}
-use Rattle.std.specs.Prelude.{filter, not, ◌||◌, nat_lt}
-use Rattle.std.proofs.lemmas.Bool.{cases_lt, true≢false}
+use Rattle.std.proofs.Common.{◌≡◌, ◌≤◌, ◌<◌, ℕ, suc, zero, Bool, true, false, List, [], ◌∷◌, ◌++◌, map, refl, ap, sym, ◌∙◌, arith, inl, inr, filter, not, nat_lt, append-nil}
+use Rattle.std.proofs.lemmas.Bool.{cases_lt, or_right}
 use Rattle.std.proofs.lemmas.Bool.Decides.{nat_tests}
-use Rattle.std.proofs.lemmas.List.{append-nil}
 use Rattle.std.proofs.lemmas.List.Elements.{filter-append}
 use Rattle.rf_zones.specs.Masks.{has_bit}
 use Rattle.rf_rules.specs.Tuples.{tuples, upto}
 use Rattle.rf_rules.specs.Touched.{meets}
-use Rattle.rf_rules.proofs.TupleLemmas.{tuples-suc, tuples-zero}
+use Rattle.rf_rules.proofs.TupleLaws.{tuples-suc, tuples-zero}
 use Rattle.rf_rules.proofs.GroupLemmas.{filter-flat_map}
-use Rattle.rf_rules.proofs.RisingLemmas.{each-all, each-map, filter-empty, flat-only, flat-same}
+use Rattle.rf_rules.proofs.RisingLemmas.{each-all, each-map, filter-empty, flat-only}
+use Rattle.rf_base.proofs.ListLaws.{flat_same}
 
 -- a carrier is not of a mask
 abbrev is_out : ℕ → ℕ → Bool
@@ -30,38 +29,18 @@ wider out m (suc n) h none =
           ∙ wider out m n p (λ c q r. none c q (omega (arith, r)))
     ]
 
-out-between : (mask c m n : ℕ) (b : Bool) → has_bit mask c ≡ b → (has_bit mask c ≡ false → nat_lt c m ≡ nat_lt c n) → m ≤ c → c < n → is_out mask c ≡ false
-out-between mask c m n true e same p q = rw e refl
-out-between mask c m n false e same p q =
-    let no : nat_lt c m ≡ false = grind (arith, nat_tests) in
-    let yes : nat_lt c n ≡ true = grind (arith, nat_tests) in
-    absurd (true≢false (sym yes ∙ sym (same e) ∙ no))
-
 carriers-same : (mask m n : ℕ) → ((c : ℕ) → has_bit mask c ≡ false → nat_lt c m ≡ nat_lt c n) → filter (is_out mask) (upto m) ≡ filter (is_out mask) (upto n)
 carriers-same mask m n same =
     elim (cases_lt m n) [
-      | inl p ↦ sym (wider (is_out mask) m n (omega (arith, p)) (λ c q r. out-between mask c m n (has_bit mask c) refl (same c) q r))
-      | inr p ↦ wider (is_out mask) n m p (λ c q r. out-between mask c n m (has_bit mask c) refl (λ o. sym (same c o)) q r)
+      | inl p ↦ sym (wider (is_out mask) m n (omega (arith, p)) (λ c q r. grind (arith, nat_tests, same c, q, r)))
+      | inr p ↦ wider (is_out mask) n m p (λ c q r. grind (arith, nat_tests, same c, q, r))
     ]
 
 -- ---- lists of them
 
-filter-behind-at : {X Y : Type 0} (p : Y → Bool) (f : X → Y) (x : X) (xs : List X) (b : Bool) → p (f x) ≡ b → filter p (map f xs) ≡ map f (filter (λ y. p (f y)) xs) →
-    filter p (map f (x ∷ xs)) ≡ map f (filter (λ y. p (f y)) (x ∷ xs))
-filter-behind-at p f x xs true e ih = rw e (ap (λ zs. f x ∷ zs) ih)
-filter-behind-at p f x xs false e ih = rw e ih
-
 filter-behind : {X Y : Type 0} (p : Y → Bool) (f : X → Y) (xs : List X) → filter p (map f xs) ≡ map f (filter (λ y. p (f y)) xs)
 filter-behind p f [] = refl
-filter-behind p f (x ∷ xs) = filter-behind-at p f x xs (p (f x)) refl (filter-behind p f xs)
-
-or-true : (a b : Bool) → b ≡ true → (a || b) ≡ true
-or-true true b h = refl
-or-true false b h = h
-
-first-met : (mask x : ℕ) (t : List ℕ) (b : Bool) → has_bit mask x ≡ b → not b ≡ false → meets mask (x ∷ t) ≡ true
-first-met mask x t true e h = rw e refl
-first-met mask x t false e h = absurd (true≢false h)
+filter-behind p f (x ∷ xs) = grind (arith, filter-behind p f xs)
 
 -- lists that have none of a mask, among the carriers that are not of it
 without : (mask : ℕ) (p : List ℕ → Bool) (k : ℕ) (xs : List ℕ) → ((t : List ℕ) → meets mask t ≡ true → p t ≡ false) → filter p (tuples k xs) ≡ filter p (tuples k (filter (is_out mask) xs))
@@ -75,9 +54,9 @@ without mask p (suc k) xs none =
     ∙ filter-flat_map p (λ x. map (push x) (tuples k xs)) xs
     ∙ flat-only was (is_out mask) xs (each-all (λ x. is_out mask x ≡ false → was x ≡ []) xs
     (λ x out. filter-empty p (map (push x) (tuples k xs)) (each-map (λ t. p t ≡ false) (push x) (tuples k xs)
-    (each-all (λ t. p (x ∷ t) ≡ false) (tuples k xs) (λ t. none (x ∷ t) (first-met mask x t (has_bit mask x) refl out))))))
-    ∙ flat-same was is ys (λ x. filter-behind p (push x) (tuples k xs)
-    ∙ ap (map (push x)) (without mask (λ t. p (x ∷ t)) k xs (λ t h. none (x ∷ t) (or-true (has_bit mask x) (meets mask t) h)))
+    (each-all (λ t. p (x ∷ t) ≡ false) (tuples k xs) (λ t. none (x ∷ t) (grind (arith, out)))))))
+    ∙ flat_same was is ys (λ x. filter-behind p (push x) (tuples k xs)
+    ∙ ap (map (push x)) (without mask (λ t. p (x ∷ t)) k xs (λ t h. none (x ∷ t) (or_right (has_bit mask x) (meets mask t) h)))
     ∙ sym (filter-behind p (push x) (tuples k ys)))
     ∙ sym (ap (filter p) (tuples-suc k ys) ∙ filter-flat_map p (λ x. map (push x) (tuples k ys)) ys)
 

@@ -1,44 +1,8 @@
 -- Lemmas on cells of values, and on carriers in the last role but one with which nothing is broken.
-use Rattle.std.proofs.Common.{
-  ◌≡◌,
-  ◌≤◌,
-  ◌<◌,
-  ◌+◌,
-  ◌-◌,
-  ◌*◌,
-  ◌/◌,
-  ◌%◌,
-  ℕ,
-  ℤ,
-  suc,
-  zero,
-  pos,
-  ◌+ℤ◌,
-  ◌-ℤ◌,
-  ◌*ℤ◌,
-  unsigned_abs,
-  Bool,
-  true,
-  false,
-  List,
-  [],
-  ◌∷◌,
-  ◌++◌,
-  length,
-  get_or,
-  refl,
-  ap,
-  sym,
-  ◌∙◌,
-  arith,
-  add-one,
-  inl,
-  inr,
-  ◌⊎◌,
-}
+use Rattle.std.proofs.Common.{◌≡◌, ◌≤◌, ◌<◌, ◌+◌, ◌-◌, ◌*◌, ◌/◌, ◌%◌, ℕ, ℤ, pos, ◌+ℤ◌, ◌-ℤ◌, ◌*ℤ◌, unsigned_abs, Bool, true, false, List, [], ◌∷◌, ◌++◌, length, get_or, ap, sym, ◌∙◌, arith}
+use Rattle.std.proofs.Common.{inl, inr, ◌⊎◌, append_assoc, length-append, true≢false}
 use Rattle.std.proofs.lemmas.Int.{ints}
-use Rattle.std.proofs.lemmas.List.{append_assoc, length-append}
-use Rattle.std.proofs.lemmas.Bool.{true≢false, cases_lt}
+use Rattle.std.proofs.lemmas.Bool.{cases_Bool, cases_lt}
 use Rattle.std.proofs.lemmas.Nat.{div_below}
 use Rattle.std.proofs.Math.Nat.{lt-div-mul-add}
 use Rattle.rf_terms.specs.Kinds.{coefficients_of, roles_of}
@@ -46,18 +10,14 @@ use Rattle.rf_zones.specs.Masks.{has_bit}
 use Rattle.rf_show.specs.Query.{asked, margin_of}
 use Rattle.rf_rules.specs.declared.pairings.Pairings.{Pairings}
 use Rattle.rf_rules.specs.declared.search.Search.{Search}
-use Rattle.rf_rules.specs.Tuples.{found_in, tuples, upto}
+use Rattle.rf_rules.specs.Tuples.{tuples, upto}
 use Rattle.rf_rules.specs.Instances.{distance_of, is_broken, khz_in}
 use Rattle.rf_rules.specs.Paired.{Covers, HasPairs, cell, mask_near, pair_value, stands}
 use Rattle.rf_rules.specs.Searches.{IsReady, broken_in, lane_of, partial_of}
 use Rattle.rf_rules.proofs.FormLemmas.{asked-past, distance-is, first-le, lane-term, margin-push, partial-push}
 use Rattle.rf_rules.proofs.HopelessLemmas.{hopeless-unassigned}
 use Rattle.rf_rules.proofs.ReadyLemmas.{ready-bound}
-use Rattle.rf_rules.specs.Tallies.{Extends}
-use Rattle.rf_rules.specs.declared.tally.Tally.{Tally}
-use Rattle.rf_rules.proofs.TallyLemmas.{none-more, same-more}
-use Rattle.rf_rules.proofs.SearchLemmas.{broken-far, broken-no_candidate, step-more}
-use Rattle.rf_rules.proofs.TupleLemmas.{begun, found-at_none, found-end, found-more, found-start, tuples-zero}
+use Rattle.rf_rules.proofs.SearchLemmas.{blank-all, broken-far, broken-no_candidate, one}
 
 -- ---- cells
 
@@ -116,19 +76,6 @@ covers-made a b c d carrier z value h small e k l m = λ product low near.
 
 -- ---- what isn't broken
 
-blank-begun : {Y : Type 0} (f : List ℕ → Y) (p : List ℕ → Bool) (t : List ℕ) (k n i : ℕ) → i ≤ n → ((c : ℕ) → c < n → found_in f p (t ++ c ∷ []) (tuples k (upto n)) ≡ []) →
-    found_in f p t (begun k (upto n) (upto i)) ≡ []
-blank-begun f p t k n zero q h = found-start f p t k n
-blank-begun f p t k n (suc i) q h =
-    let before : found_in f p t (begun k (upto n) (upto i)) ≡ [] = blank-begun f p t k n i (omega (arith, q)) h in
-    let own : found_in f p (t ++ i ∷ []) (tuples k (upto n)) ≡ [] = h i (omega (arith, q)) in
-    ap (λ j. found_in f p t (begun k (upto n) (upto j))) (sym (add-one i)) ∙ sym (found-more f p t k n i) ∙ ap (λ zs. zs ++ found_in f p (t ++ i ∷ []) (tuples k (upto n))) before ∙ own
-
--- nothing is found where nothing is with any carrier in the next role
-pub blank-all : {Y : Type 0} (f : List ℕ → Y) (p : List ℕ → Bool) (t : List ℕ) (k n : ℕ) → ((c : ℕ) → c < n → found_in f p (t ++ c ∷ []) (tuples k (upto n)) ≡ []) →
-    found_in f p t (tuples (suc k) (upto n)) ≡ []
-blank-all f p t k n h = sym (found-end f p t k n n refl) ∙ blank-begun f p t k n n (omega arith) h
-
 any-asked : (s : Search) (width c : ℕ) → IsReady s → ((d : ℕ) → d < length s.ats.now → asked s.show.now s.kind d ≤ width) → asked s.show.now s.kind c ≤ width
 any-asked s width c r h =
     elim (cases_lt c (length s.ats.now)) [
@@ -168,20 +115,19 @@ broken s t = is_broken s.show.now s.ats.now s.kind t
 unplaced : (s : Search) (t u : List ℕ) (c : ℕ) → stands s c ≡ false → broken s (t ++ c ∷ u) ≡ false
 unplaced s t u c h = broken-no_candidate s.show.now s.ats.now s.kind (t ++ c ∷ u) (hopeless-unassigned s.show.now s.ats.now s.kind t u c h)
 
-unbroken-at : (s : Search) (t : List ℕ) (c d : ℕ) (a b : Bool) → stands s c ≡ a → stands s d ≡ b
-    → (stands s c ≡ true → stands s d ≡ true → broken s ((t ++ c ∷ []) ++ d ∷ []) ≡ false) → broken s ((t ++ c ∷ []) ++ d ∷ []) ≡ false
-unbroken-at s t c d true true e f h = h e f
-unbroken-at s t c d true false e f h = unplaced s (t ++ c ∷ []) [] d f
-unbroken-at s t c d false b e f h = ap (broken s) (append_assoc t (c ∷ []) (d ∷ [])) ∙ unplaced s t (d ∷ []) c e
-
 -- two carriers in the last roles that are covered where both have frequencies, and of which the first stands in no cell near
 pub unbroken : (s : Search) (p : Pairings) (t : List ℕ) (c d : ℕ) → IsReady s
     → ((e : ℕ) → e < length s.ats.now → asked s.show.now s.kind e ≤ p.width) → length t + 2 ≡ roles_of s.kind → d < length s.ats.now
     → (stands s c ≡ true → stands s d ≡ true → Covers p c (pair_value s c d)) → has_bit (mask_near p (partial_of s t)) c ≡ false
     → is_broken s.show.now s.ats.now s.kind ((t ++ c ∷ []) ++ d ∷ []) ≡ false
 unbroken s p t c d r wide n j covered out =
-    unbroken-at s t c d (stands s c) (stands s d) refl refl
-    (λ e f. broken-far s.show.now s.ats.now s.kind ((t ++ c ∷ []) ++ d ∷ []) (far s p t c d r wide n j (covered e f) out))
+    elim (cases_Bool (stands s c)) [
+      | inl e ↦ elim (cases_Bool (stands s d)) [
+        | inl f ↦ broken-far s.show.now s.ats.now s.kind ((t ++ c ∷ []) ++ d ∷ []) (far s p t c d r wide n j (covered e f) out)
+        | inr f ↦ unplaced s (t ++ c ∷ []) [] d f
+      ]
+      | inr e ↦ ap (broken s) (append_assoc t (c ∷ []) (d ∷ [])) ∙ unplaced s t (d ∷ []) c e
+    ]
 
 -- nothing is broken with a carrier in the last role but one that stands in no cell near
 pub quiet-second : (s : Search) (p : Pairings) (t : List ℕ) (c : ℕ) → IsReady s → HasPairs p s → length t + 2 ≡ roles_of s.kind → c < length s.ats.now →
@@ -189,17 +135,4 @@ pub quiet-second : (s : Search) (p : Pairings) (t : List ℕ) (c : ℕ) → IsRe
 quiet-second s p t c r h n i out =
     let many = length s.ats.now in
     blank-all _ _ (t ++ c ∷ []) 0 many (λ d j.
-    ap (broken_in s ((t ++ c ∷ []) ++ d ∷ [])) (tuples-zero (upto many)) ∙ found-at_none _ _ ((t ++ c ∷ []) ++ d ∷ []) (unbroken s p t c d r h.wide n j (h.pairs c d i j) out))
-
--- one carrier more in the next role, with which nothing is broken
-pub step-quiet : (s : Search) (t : List ℕ) (k j n i : ℕ) (a b : Tally) → k ≡ j → Extends a b (broken_in s t (begun j (upto n) (upto i))) →
-    broken_in s (t ++ i ∷ []) (tuples k (upto n)) ≡ [] → Extends a b (broken_in s t (begun j (upto n) (upto (i + 1))))
-step-quiet s t k j n i a b e h none =
-    let now : broken_in s (t ++ i ∷ []) (tuples j (upto n)) ≡ [] = rw e at none in
-    step-more s t j n i a b b h (same-more b b _ _ (sym now) (none-more b))
-
--- no carrier in the next role breaks anything
-pub none-next : (s : Search) (t : List ℕ) (k j n : ℕ) (a : Tally) → suc k ≡ j → ((c : ℕ) → c < n → broken_in s (t ++ c ∷ []) (tuples k (upto n)) ≡ []) → Extends a a (broken_in s t (tuples j (upto n)))
-none-next s t k j n a e h =
-    let none : broken_in s t (tuples j (upto n)) ≡ [] = rw e at (blank-all _ _ t k n h) in
-    same-more a a _ _ (sym none) (none-more a)
+    one _ _ ((t ++ c ∷ []) ++ d ∷ []) many (unbroken s p t c d r h.wide n j (h.pairs c d i j) out))

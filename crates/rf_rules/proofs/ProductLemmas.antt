@@ -1,7 +1,5 @@
 -- Lemmas on the search for products.
-use Rattle.std.proofs.Common.{◌≡◌, ◌≤◌, ◌<◌, ◌+◌, ℕ, ℤ, suc, Bool, true, false, List, [], ◌∷◌, ◌++◌, length, refl, ap, sym, ◌∙◌, arith}
-use Rattle.std.specs.Prelude.{Option, ◌&&◌}
-use Rattle.std.proofs.lemmas.List.{append-nil, append_assoc}
+use Rattle.std.proofs.Common.{◌≡◌, ◌≤◌, ◌<◌, ◌+◌, ℕ, ℤ, suc, true, false, List, [], ◌∷◌, ◌++◌, length, refl, ap, sym, ◌∙◌, arith, Option, append-nil, append_assoc}
 use Rattle.rf_terms.specs.Kinds.{roles_of}
 use Rattle.rf_terms.specs.declared.kind.Kind.{Kind}
 use Rattle.rf_terms.specs.declared.kind.Kind.TheVariants.{Spacing}
@@ -13,7 +11,9 @@ use Rattle.rf_rules.specs.Products.{is_between, is_noted, noted_in, product_at}
 use Rattle.rf_rules.specs.declared.product.Product.{Product}
 use Rattle.rf_rules.specs.declared.search.Search.{Search}
 use Rattle.rf_rules.proofs.HopelessLemmas.{closed}
-use Rattle.rf_rules.proofs.TupleLemmas.{begun, found-at_none, found-end, found-more, found-none, found-one, found-start, tuples-zero}
+use Rattle.rf_rules.proofs.SearchLemmas.{hopeless}
+use Rattle.rf_rules.proofs.TupleLaws.{begun, found-at_none, found-end, found-more, found-none, found-one, found-start, tuples-zero}
+use mathlib.Core.Bool.{and-false}
 
 -- the roles that stand in an order are sources, where there is a victim
 pub ordered-few : (kind : Kind) → ordered_roles kind ≤ roles_of kind
@@ -23,10 +23,6 @@ ordered-few _ = omega arith
 pub ordered-sources : (kind : Kind) → 2 < roles_of kind → ordered_roles kind + 1 ≤ roles_of kind
 ordered-sources Spacing h = absurd (omega (arith, h))
 ordered-sources _ h = omega arith
-
-and-false : (b : Bool) → (b && false) ≡ false
-and-false true = refl
-and-false false = refl
 
 pub noted-outside : (show : ShowData) (ats : List (Option ℕ)) (kind : Kind) (lo hi : ℕ) (t : List ℕ) → is_between lo hi (product_of ats kind t) ≡ false → is_noted show ats kind lo hi t ≡ false
 unfolding is_noted
@@ -75,11 +71,7 @@ sources-more s lo hi t k n i xs ys zs p q =
 
 pub sources-skip : (s : Search) (lo hi : ℕ) (t : List ℕ) (k n i : ℕ) (xs ys : List Product) → ys ≡ xs ++ noted_in s lo hi t (begun k (upto n) (upto i)) →
     ((u : List ℕ) → is_noted s.show.now s.ats.now s.kind lo hi (t ++ i ∷ u) ≡ false) → ys ≡ xs ++ noted_in s lo hi t (begun k (upto n) (upto (i + 1)))
-sources-skip s lo hi t k n i xs ys p h =
-    let noted = is_noted s.show.now s.ats.now s.kind lo hi in
-    let none : noted_in s lo hi (t ++ i ∷ []) (tuples k (upto n)) ≡ [] =
-    found-none (product_at s.ats.now s.kind) noted (t ++ i ∷ []) (tuples k (upto n)) (λ u. ap noted (append_assoc t (i ∷ []) u) ∙ h u) in
-    sources-more s lo hi t k n i xs ys ys p (sym (ap (λ us. ys ++ us) none ∙ append-nil ys))
+sources-skip s lo hi t k n i xs ys p h = sources-more s lo hi t k n i xs ys ys p (sym (ap (λ us. ys ++ us) (hopeless _ _ t k n i h) ∙ append-nil ys))
 
 pub sources-end : (s : Search) (lo hi : ℕ) (t : List ℕ) (k j n i : ℕ) (xs ys : List Product) → i ≡ n → suc k ≡ j → ys ≡ xs ++ noted_in s lo hi t (begun k (upto n) (upto i)) →
     ys ≡ xs ++ noted_in s lo hi t (tuples j (upto n))

@@ -1,9 +1,7 @@
 -- An analysis is that of before without what a change touches, and what the change makes, in one order.
-use Rattle.std.proofs.Common.{◌≡◌, ℕ, Bool, true, false, List, [], ◌∷◌, ◌++◌, map, length, refl, ap, sym, ◌∙◌}
-use Rattle.std.specs.Prelude.{Option, filter, nat_lt, not, ◌&&◌, ◌||◌, ◌==◌}
+use Rattle.std.proofs.Common.{◌≡◌, ℕ, Bool, false, List, [], ◌∷◌, ◌++◌, map, length, refl, ap, sym, ◌∙◌, arith, filter, nat_lt, not, ◌&&◌, ◌||◌, ◌==◌, append-nil}
 use Rattle.std.specs.List.{flat_map}
-use Rattle.std.proofs.lemmas.Bool.{true≢false}
-use Rattle.std.proofs.lemmas.List.{append-nil, length-map}
+use Rattle.std.proofs.lemmas.List.{length-map}
 use Rattle.std.proofs.lemmas.List.Elements.{filter-append}
 use Rattle.rf_terms.specs.Kinds.{kinds, roles_of}
 use Rattle.rf_terms.specs.declared.kind.Kind.{Kind}
@@ -19,10 +17,12 @@ use Rattle.rf_rules.specs.declared.conflict.Conflict.{Conflict}
 use Rattle.rf_rules.proofs.GroupLemmas.{filter-flat_map}
 use Rattle.rf_rules.specs.Merges.{merge, stands_before}
 use Rattle.rf_rules.specs.Renewed.{Agrees, AnalysisIsRenewed, is_kept, number_of, precedes, renewed_of, roles_in}
-use Rattle.rf_rules.proofs.RisingLemmas.{IsRising, each-all, each-from, each-map, filter-empty, filter-made, flat-only, flat-same, map-same, merge-filters, rising-along}
+use Rattle.rf_rules.proofs.RisingLemmas.{IsRising, each-all, each-from, each-map, filter-empty, filter-made, flat-only, map-same, merge-filters, rising-along}
 use Rattle.rf_rules.proofs.OrderLemmas.{tuples-long, tuples-rise}
 use Rattle.rf_rules.proofs.OutsideLemmas.{tuples-same}
 use Rattle.rf_rules.proofs.AlikeLemmas.{broken-alike, conflict-alike, of-made, of-own, roles-made}
+use mathlib.Core.Bool.{and-false}
+use Rattle.rf_base.proofs.ListLaws.{flat_same}
 
 -- ---- of an analysis, the instances of one kind
 
@@ -50,7 +50,8 @@ kept-own show kind mask =
     ∙ filter-append keep (banned_carriers show) (flat_map each kinds)
     ∙ ap (λ zs. zs ++ filter keep (flat_map each kinds)) banned
     ∙ filter-flat_map keep each kinds
-    ∙ flat-only g (λ other. number_of kind == number_of other) kinds (each-all (λ other. (number_of kind == number_of other) ≡ false → g other ≡ []) kinds (λ other h. others show kind other mask h))
+    ∙ flat-only g (λ other. number_of kind == number_of other) kinds
+    (each-all (λ other. (number_of kind == number_of other) ≡ false → g other ≡ []) kinds (λ other h. others show kind other mask h))
     ∙ ap (flat_map g) (once kind)
     ∙ append-nil (g kind)
 
@@ -60,45 +61,6 @@ kept-by : (show : ShowData) (kind : Kind) (mask : ℕ) (t : List ℕ) → length
 kept-by show kind mask t n =
     let c = conflict_of show (ats_of show) kind t in
     ap (λ b. b && not (meets mask (roles_in kind c))) (of-own show (ats_of show) kind t) ∙ ap (λ u. not (meets mask u)) (roles-made show (ats_of show) kind t n)
-
-and-false : (b : Bool) → (b && false) ≡ false
-and-false true = refl
-and-false false = refl
-
-and-true : (b : Bool) → (b && true) ≡ b
-and-true true = refl
-and-true false = refl
-
-alike-at : (p q m : Bool) → (m ≡ false → p ≡ q) → (p && not m) ≡ (q && not m)
-alike-at p q true h = and-false p ∙ sym (and-false q)
-alike-at p q false h = ap (λ b. b && true) (h refl)
-
-met-out : (p m : Bool) → m ≡ true → (p && not m) ≡ false
-met-out p true h = and-false p
-met-out p false h = absurd (true≢false (sym h))
-
-out-at : (p m : Bool) → (p && not m) ≡ true → m ≡ false
-out-at p true h = absurd (true≢false (sym h ∙ and-false p))
-out-at p false h = refl
-
-either : (p m : Bool) → ((p && not m) || (p && m)) ≡ p
-either true true = refl
-either true false = refl
-either false m = refl
-
-apart : (p m : Bool) → ((p && not m) && (p && m)) ≡ false
-apart true true = refl
-apart true false = refl
-apart false m = refl
-
-touched-either : (show : ShowData) (ats : List (Option ℕ)) (kind : Kind) (mask : ℕ) (t : List ℕ) →
-    ((is_broken show ats kind t && not (meets mask t)) || is_touched show ats kind mask t) ≡ is_broken show ats kind t
-unfolding is_touched
-touched-either show ats kind mask t = either (is_broken show ats kind t) (meets mask t)
-
-touched-apart : (show : ShowData) (ats : List (Option ℕ)) (kind : Kind) (mask : ℕ) (t : List ℕ) → ((is_broken show ats kind t && not (meets mask t)) && is_touched show ats kind mask t) ≡ false
-unfolding is_touched
-touched-apart show ats kind mask t = apart (is_broken show ats kind t) (meets mask t)
 
 kept-same : (mask : ℕ) (old new : ShowData) (kind : Kind) → Agrees mask old new →
     filter (is_kept kind mask) (conflicts_of old (ats_of old) kind) ≡
@@ -115,12 +77,13 @@ kept-same mask old new kind a =
     let olds = tuples k (upto (length (ats_of old))) in
     let ts = tuples k (upto (length (ats_of new))) in
     filter-made (is_kept kind mask) before was out olds (each-from (λ t. length t ≡ k) _ olds (λ t h e. kept-by old kind mask t h) (tuples-long k (upto (length (ats_of old)))))
-    ∙ ap (map before) (tuples-same mask (length (ats_of old)) (length (ats_of new)) (λ t. was t && out t) k many (λ t h. met-out (was t) (meets mask t) h))
+    ∙ ap (map before) (tuples-same mask (length (ats_of old)) (length (ats_of new)) (λ t. was t && out t) k many (λ t h. rw h (and-false (was t))))
     ∙ map-same before now (λ t. was t && out t) (λ t. is t && out t) ts (each-from (λ t. length t ≡ k) _ ts
-    (λ t h. (alike-at (was t) (is t) (meets mask t) (λ e. broken-alike mask old new kind t a h e), λ e. conflict-alike mask old new kind t a h (out-at (was t) (meets mask t) e)))
+    (λ t h. (grind (arith, broken-alike mask old new kind t a h), λ e. conflict-alike mask old new kind t a h (grind (arith, e))))
     (tuples-long k (upto (length (ats_of new)))))
 
 pub renewed-kind : (mask : ℕ) (old new : ShowData) (kind : Kind) → Agrees mask old new → renewed_of mask (analysis old) new kind ≡ conflicts_of new (ats_of new) kind
+unfolding is_touched
 renewed-kind mask old new kind a =
     let k = roles_of kind in
     let ats = ats_of new in
@@ -134,9 +97,9 @@ renewed-kind mask old new kind a =
     (λ s t p q. sym (ap (λ u. stands_before u (roles_in kind (f t))) (roles-made new ats kind s p) ∙ ap (stands_before s) (roles-made new ats kind t q)))
     (tuples-long k (upto (length ats))) (tuples-rise k (length ats)) in
     ap (λ zs. merge (precedes kind) zs (touched_of new ats kind mask)) (kept-own old kind mask ∙ kept-same mask old new kind a)
-    ∙ merge-filters (precedes kind) f kept touched ts rise (λ t. touched-apart new ats kind mask t)
-    ∙ map-same f f (λ t. kept t || touched t) is ts (each-all _ ts (λ t. (touched-either new ats kind mask t, λ e. refl)))
+    ∙ merge-filters (precedes kind) f kept touched ts rise (λ t. grind arith)
+    ∙ map-same f f (λ t. kept t || touched t) is ts (each-all _ ts (λ t. (grind arith, λ e. refl)))
 
 pub analysis-renewed : AnalysisIsRenewed
 analysis-renewed mask old new a =
-    ap (λ zs. off_grid new ++ (banned_carriers new ++ zs)) (flat-same (renewed_of mask (analysis old) new) (conflicts_of new (ats_of new)) kinds (λ kind. renewed-kind mask old new kind a))
+    ap (λ zs. off_grid new ++ (banned_carriers new ++ zs)) (flat_same (renewed_of mask (analysis old) new) (conflicts_of new (ats_of new)) kinds (λ kind. renewed-kind mask old new kind a))

@@ -1,10 +1,7 @@
 -- Lemmas on filters of lists that rise, and on two of them as one.
-use Rattle.std.proofs.Common.{◌≡◌, Bool, true, false, List, [], ◌∷◌, ◌++◌, map, refl, ap, sym, ◌∙◌}
-use Rattle.std.specs.Prelude.{filter, ◌&&◌, ◌||◌}
+use Rattle.std.proofs.Common.{◌≡◌, Bool, true, false, List, [], ◌∷◌, ◌++◌, map, refl, sym, ◌∙◌, arith, inl, inr, filter, ◌&&◌, ◌||◌}
 use Rattle.std.specs.List.{flat_map}
-use Rattle.std.proofs.lemmas.Bool.{true≢false}
-use Rattle.std.proofs.lemmas.List.{map-append}
-use Rattle.std.proofs.lemmas.List.Concat.{flat_map-append}
+use Rattle.std.proofs.lemmas.Bool.{cases_Bool}
 use Rattle.rf_rules.specs.Merges.{merge}
 
 -- ---- a fact of each element
@@ -33,53 +30,25 @@ pub each-flat : {X Y : Type 0} (P : Y → Type 0) (f : X → List Y) (xs : List 
 each-flat P f [] h = tt
 each-flat P f (x ∷ xs) h = each-append P (f x) (flat_map f xs) (h x) (each-flat P f xs h)
 
--- of an element and of each other
-pub each-both : {X : Type 0} (P Q : X → Type 0) (xs : List X) → Each P xs → Each Q xs → Each (λ x. P x × Q x) xs
-each-both P Q [] h k = tt
-each-both P Q (x ∷ xs) h k = ((h.0, k.0), each-both P Q xs h.1 k.1)
-
-each-filter-at : {X : Type 0} (P : X → Type 0) (a : X → Bool) (x : X) (xs : List X) (b : Bool) → a x ≡ b → P x → Each P (filter a xs) → Each P (filter a (x ∷ xs))
-each-filter-at P a x xs true e h k = rw e (h, k)
-each-filter-at P a x xs false e h k = rw e k
-
 pub each-filter : {X : Type 0} (P : X → Type 0) (a : X → Bool) (xs : List X) → Each P xs → Each P (filter a xs)
 each-filter P a [] h = tt
-each-filter P a (x ∷ xs) h = each-filter-at P a x xs (a x) refl h.0 (each-filter P a xs h.1)
+each-filter P a (x ∷ xs) h = elim (cases_Bool (a x)) [ inl e ↦ rw e (h.0, each-filter P a xs h.1) | inr e ↦ rw e (each-filter P a xs h.1) ]
 
 -- ---- filters that say the same
 
-same-at : {X Y : Type 0} (f g : X → Y) (p q : X → Bool) (x : X) (xs : List X) (b : Bool) → p x ≡ b → p x ≡ q x → (p x ≡ true → f x ≡ g x) →
-    map f (filter p xs) ≡ map g (filter q xs) → map f (filter p (x ∷ xs)) ≡ map g (filter q (x ∷ xs))
-same-at f g p q x xs true e h k ih =
-    let q-yes : q x ≡ true = sym h ∙ e in
-    let fg : f x ≡ g x = k e in
-    rw (e, q-yes) cc
-same-at f g p q x xs false e h k ih =
-    let q-no : q x ≡ false = sym h ∙ e in
-    rw (e, q-no) ih
-
 pub map-same : {X Y : Type 0} (f g : X → Y) (p q : X → Bool) (xs : List X) → Each (λ x. (p x ≡ q x) × (p x ≡ true → f x ≡ g x)) xs → map f (filter p xs) ≡ map g (filter q xs)
 map-same f g p q [] h = refl
-map-same f g p q (x ∷ xs) h = same-at f g p q x xs (p x) refl h.0.0 h.0.1 (map-same f g p q xs h.1)
-
-test-at : {X Y : Type 0} (r : Y → Bool) (f : X → Y) (p q : X → Bool) (x : X) (xs : List X) (b c : Bool) → p x ≡ b → r (f x) ≡ c → (p x ≡ true → r (f x) ≡ q x) →
-    filter r (map f (filter p xs)) ≡ map f (filter (λ y. p y && q y) xs) → filter r (map f (filter p (x ∷ xs))) ≡ map f (filter (λ y. p y && q y) (x ∷ xs))
-test-at r f p q x xs true true e g h ih = let q-yes : q x ≡ true = sym (h e) ∙ g in rw (e, g, q-yes) (ap (λ zs. f x ∷ zs) ih)
-test-at r f p q x xs true false e g h ih = let q-no : q x ≡ false = sym (h e) ∙ g in rw (e, g, q-no) ih
-test-at r f p q x xs false c e g h ih = rw e ih
+map-same f g p q (x ∷ xs) h = grind (arith, h.0.0, h.0.1, map-same f g p q xs h.1)
 
 -- a test of what f makes of those that pass
 pub filter-made : {X Y : Type 0} (r : Y → Bool) (f : X → Y) (p q : X → Bool) (xs : List X) → Each (λ x. p x ≡ true → r (f x) ≡ q x) xs →
     filter r (map f (filter p xs)) ≡ map f (filter (λ x. p x && q x) xs)
 filter-made r f p q [] h = refl
-filter-made r f p q (x ∷ xs) h = test-at r f p q x xs (p x) (r (f x)) refl refl h.0 (filter-made r f p q xs h.1)
-
-none-at : {X : Type 0} (p : X → Bool) (x : X) (xs : List X) → p x ≡ false → filter p xs ≡ [] → filter p (x ∷ xs) ≡ []
-none-at p x xs e ih = rw e ih
+filter-made r f p q (x ∷ xs) h = grind (arith, h.0, filter-made r f p q xs h.1)
 
 pub filter-empty : {X : Type 0} (p : X → Bool) (xs : List X) → Each (λ x. p x ≡ false) xs → filter p xs ≡ []
 filter-empty p [] h = refl
-filter-empty p (x ∷ xs) h = none-at p x xs h.0 (filter-empty p xs h.1)
+filter-empty p (x ∷ xs) h = grind (arith, h.0, filter-empty p xs h.1)
 
 -- ---- lists that rise
 
@@ -127,41 +96,17 @@ merge-none lt xs = refl
 above : {X Y : Type 0} (lt : Y → Y → Bool) (f : X → Y) (a : X → Bool) (x : X) (xs : List X) → Each (Before (λ s t. lt (f s) (f t)) x) xs → Each (Before lt (f x)) (map f (filter a xs))
 above lt f a x xs h = each-map (Before lt (f x)) f (filter a xs) (each-filter (λ y. Before lt (f x) (f y)) a xs h)
 
-both-at : {X Y : Type 0} (lt : Y → Y → Bool) (f : X → Y) (a b : X → Bool) (x : X) (xs : List X) (p q : Bool) → a x ≡ p → b x ≡ q → (a x && b x) ≡ false → Each (Before (λ s t. lt (f s) (f t)) x) xs
-    → merge lt (map f (filter a xs)) (map f (filter b xs)) ≡ map f (filter (λ t. a t || b t) xs)
-    → merge lt (map f (filter a (x ∷ xs))) (map f (filter b (x ∷ xs))) ≡ map f (filter (λ t. a t || b t) (x ∷ xs))
-both-at lt f a b x xs true true e g d h ih = absurd (true≢false (sym (ap (λ z. z && b x) e ∙ g) ∙ d))
-both-at lt f a b x xs true false e g d h ih =
-    rw (e, g) (merge-left lt (f x) (map f (filter a xs)) (map f (filter b xs)) (above lt f b x xs h) ∙ ap (λ zs. f x ∷ zs) ih)
-both-at lt f a b x xs false true e g d h ih =
-    rw (e, g) (merge-right lt (f x) (map f (filter a xs)) (map f (filter b xs)) (above lt f a x xs h) ∙ ap (λ zs. f x ∷ zs) ih)
-both-at lt f a b x xs false false e g d h ih = rw (e, g) ih
-
 -- two filters of a rising list, of which no element passes both, as one
 pub merge-filters : {X Y : Type 0} (lt : Y → Y → Bool) (f : X → Y) (a b : X → Bool) (xs : List X) → IsRising (λ s t. lt (f s) (f t)) xs → ((x : X) → (a x && b x) ≡ false)
     → merge lt (map f (filter a xs)) (map f (filter b xs)) ≡ map f (filter (λ t. a t || b t) xs)
 merge-filters lt f a b [] h d = merge-none lt []
-merge-filters lt f a b (x ∷ xs) h d = both-at lt f a b x xs (a x) (b x) refl refl (d x) h.0 (merge-filters lt f a b xs h.1 d)
+merge-filters lt f a b (x ∷ xs) h d =
+    let left = merge-left lt (f x) (map f (filter a xs)) (map f (filter b xs)) (above lt f b x xs h.0) in
+    let right = merge-right lt (f x) (map f (filter a xs)) (map f (filter b xs)) (above lt f a x xs h.0) in
+    grind (arith, d x, left, right, merge-filters lt f a b xs h.1 d)
 
 -- ---- parts that are empty
 
-flat-only-at : {X Y : Type 0} (g : X → List Y) (test : X → Bool) (x : X) (xs : List X) (b : Bool) → test x ≡ b → (test x ≡ false → g x ≡ []) →
-    flat_map g xs ≡ flat_map g (filter test xs) → flat_map g (x ∷ xs) ≡ flat_map g (filter test (x ∷ xs))
-flat-only-at g test x xs true e none ih = rw e (ap (λ zs. g x ++ zs) ih)
-flat-only-at g test x xs false e none ih = rw e (ap (λ zs. zs ++ flat_map g xs) (none e) ∙ ih)
-
 pub flat-only : {X Y : Type 0} (g : X → List Y) (test : X → Bool) (xs : List X) → Each (λ x. test x ≡ false → g x ≡ []) xs → flat_map g xs ≡ flat_map g (filter test xs)
 flat-only g test [] none = refl
-flat-only g test (x ∷ xs) none = flat-only-at g test x xs (test x) refl none.0 (flat-only g test xs none.1)
-
-pub flat-same : {X Y : Type 0} (f g : X → List Y) (xs : List X) → ((x : X) → f x ≡ g x) → flat_map f xs ≡ flat_map g xs
-flat-same f g [] h = refl
-flat-same f g (x ∷ xs) h = ap (λ zs. zs ++ flat_map f xs) (h x) ∙ ap (λ zs. g x ++ zs) (flat-same f g xs h)
-
-pub map-flat : {X Y Z : Type 0} (f : Y → Z) (g : X → List Y) (xs : List X) → map f (flat_map g xs) ≡ flat_map (λ x. map f (g x)) xs
-map-flat f g [] = refl
-map-flat f g (x ∷ xs) = map-append f (g x) (flat_map g xs) ∙ ap (λ zs. map f (g x) ++ zs) (map-flat f g xs)
-
-pub flat-flat : {X Y Z : Type 0} (f : Y → List Z) (g : X → List Y) (xs : List X) → flat_map f (flat_map g xs) ≡ flat_map (λ x. flat_map f (g x)) xs
-flat-flat f g [] = refl
-flat-flat f g (x ∷ xs) = flat_map-append f (g x) (flat_map g xs) ∙ ap (λ zs. flat_map f (g x) ++ zs) (flat-flat f g xs)
+flat-only g test (x ∷ xs) none = grind (arith, none.0, flat-only g test xs none.1)

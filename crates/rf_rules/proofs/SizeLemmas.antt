@@ -1,6 +1,6 @@
 -- Lemmas on products in the order of their values.
-use Rattle.std.proofs.Common.{◌≡◌, ◌≤◌, ◌<◌, ◌+◌, ◌-◌, ℕ, ℤ, pos, negsuc, Bool, true, false, List, [], ◌∷◌, ◌++◌, length, get_or, take, refl, ap, sym, ◌∙◌, arith, nat_cmp}
-use Rattle.std.specs.Prelude.{All, Option, filter, ◌==◌, ◌&&◌, nat_le, nat_lt, not, unsigned_abs, if◌then◌else◌}
+use Rattle.std.proofs.Common.{◌≡◌, ◌≤◌, ◌<◌, ◌+◌, ◌-◌, ℕ, ℤ, pos, negsuc, Bool, true, List, [], ◌∷◌, length, get_or, take, refl, ap, sym, ◌∙◌, arith, nat_cmp}
+use Rattle.std.specs.Prelude.{All, Option, filter, ◌==◌, ◌&&◌, not, unsigned_abs, if◌then◌else◌}
 use Rattle.std.specs.Ordering.{is_lt}
 use Rattle.std.specs.List.{flat_map}
 use Rattle.std.specs.List.Sorted.{IsNonDecreasingBy, IsPermutation, IsStableByKey, ties}
@@ -17,21 +17,14 @@ use Rattle.rf_rules.specs.Tallies.{shown_of}
 use Rattle.rf_rules.specs.declared.product.Products.{Products}
 use Rattle.rf_rules.specs.Products.{all_products, has_size, has_value, is_between, is_noted, is_value, lies, listed, noted_of, product_at, products, products_of, size_of, values}
 use Rattle.rf_rules.specs.declared.product.Product.{Product}
-use Rattle.rf_rules.proofs.TupleLemmas.{found-all}
+use Rattle.rf_rules.proofs.TupleLaws.{found-all}
 use Rattle.rf_rules.proofs.GroupLemmas.{all-filter, filter-flat_map, filter-map, filter-same, filter-twice, groups, groups-rising, groups-same}
+use Rattle.rf_base.proofs.ListLaws.{flat_same}
 
 -- ---- a stable sort
 
-ties-same : (a b : ℕ) (less more : Bool) → nat_lt a b ≡ less → nat_lt b a ≡ more → (not (is_lt (nat_cmp a b)) && not (is_lt (nat_cmp b a))) ≡ (b == a)
-ties-same a b true more e f = let differ : (b == a) ≡ false = grind (arith, nat_tests, e) in rw e (sym differ)
-ties-same a b false true e f =
-    let differ : (b == a) ≡ false = grind (arith, nat_tests, f) in
-    let other : (a == b) ≡ false = grind (arith, nat_tests, f) in
-    rw (e, f, other) (sym differ)
-ties-same a b false false e f =
-    let same : (b == a) ≡ true = grind (arith, nat_tests, e, f) in
-    let other : (a == b) ≡ true = grind (arith, nat_tests, e, f) in
-    rw (e, f, other, same) refl
+ties-same : (a b : ℕ) → (not (is_lt (nat_cmp a b)) && not (is_lt (nat_cmp b a))) ≡ (b == a)
+ties-same a b = grind (arith, nat_tests)
 
 -- a product of this size
 abbrev sized : ℕ → Product
@@ -41,61 +34,38 @@ sized v = record { value = pos v; kind = Spacing; sources = [] }
 pub stable-by_size : (xs ys : List Product) → IsStableByKey size_of nat_cmp xs ys → (v : ℕ) → filter (has_size v) ys ≡ filter (has_size v) xs
 stable-by_size xs ys h v =
     let lt : Product → Product → Bool = λ p q. is_lt (nat_cmp (size_of p) (size_of q)) in
-    let same : (p : Product) → ties lt (sized v) p ≡ has_size v p = λ p. ties-same v (size_of p) _ _ refl refl in
+    let same : (p : Product) → ties lt (sized v) p ≡ has_size v p = λ p. ties-same v (size_of p) in
     sym (filter-same (ties lt (sized v)) (has_size v) ys same) ∙ h (sized v) ∙ filter-same (ties lt (sized v)) (has_size v) xs same
 
 -- ---- what is found
 
-flat_map-same : {X Y : Type 0} (f g : X → List Y) (xs : List X) → ((x : X) → f x ≡ g x) → flat_map f xs ≡ flat_map g xs
-flat_map-same f g [] h = refl
-flat_map-same f g (x ∷ xs) h = ap (λ ys. ys ++ flat_map f xs) (h x) ∙ ap (λ ys. g x ++ ys) (flat_map-same f g xs h)
-
-flat_map-filter-at : {X Y : Type 0} (p : X → Bool) (f : X → List Y) (x : X) (xs : List X) (b : Bool) → p x ≡ b →
-    flat_map (λ y. if p y then f y else []) xs ≡ flat_map f (filter p xs) → flat_map (λ y. if p y then f y else []) (x ∷ xs) ≡ flat_map f (filter p (x ∷ xs))
-flat_map-filter-at p f x xs true e ih = rw e (ap (λ ys. f x ++ ys) ih)
-flat_map-filter-at p f x xs false e ih = rw e ih
-
 flat_map-filter : {X Y : Type 0} (p : X → Bool) (f : X → List Y) (xs : List X) → flat_map (λ x. if p x then f x else []) xs ≡ flat_map f (filter p xs)
 flat_map-filter p f [] = refl
-flat_map-filter p f (x ∷ xs) = flat_map-filter-at p f x xs (p x) refl (flat_map-filter p f xs)
+flat_map-filter p f (x ∷ xs) = grind (arith, flat_map-filter p f xs)
 
 noted-kind : (show : ShowData) (ats : List (Option ℕ)) (lo hi : ℕ) (kind : Kind) →
     found_in (product_at ats kind) (is_noted show ats kind lo hi) [] (tuples (roles_of kind - 1) (upto (length ats))) ≡ filter (lies lo hi) (products_of show ats kind)
 unfolding is_noted
 noted-kind show ats lo hi kind =
     let all = tuples (roles_of kind - 1) (upto (length ats)) in
-    found-all (product_at ats kind) (λ t. lies lo hi (product_at ats kind t) && is_candidate show ats kind t) all ∙ filter-map (lies lo hi) (is_candidate show ats kind) (product_at ats kind) all
+    found-all (product_at ats kind) (λ t. lies lo hi (product_at ats kind t) && is_candidate show ats kind t) all ∙ filter-map (lies lo hi) (is_candidate show ats kind)
+    (product_at ats kind) all
 
 pub noted-all : (show : ShowData) (lo hi : ℕ) → flat_map (noted_of show (ats_of show) lo hi) kinds ≡ filter (lies lo hi) (all_products show)
 noted-all show lo hi =
     let ats = ats_of show in
     let found : Kind → List Product = λ kind. found_in (product_at ats kind) (is_noted show ats kind lo hi) [] (tuples (roles_of kind - 1) (upto (length ats))) in
-    flat_map-filter has_victim found kinds ∙ flat_map-same found (λ kind. filter (lies lo hi) (products_of show ats kind)) (filter has_victim kinds) (noted-kind show ats lo hi) ∙
+    flat_map-filter has_victim found kinds ∙ flat_same found (λ kind. filter (lies lo hi) (products_of show ats kind)) (filter has_victim kinds) (noted-kind show ats lo hi) ∙
     sym (filter-flat_map (lies lo hi) (products_of show ats) (filter has_victim kinds))
 
 -- ---- values and sizes
 
-and-false : (b : Bool) → (b && false) ≡ false
-and-false true = refl
-and-false false = refl
-
-value-at : (lo hi v n : ℕ) (b : Bool) → (n == v) ≡ b → lo ≤ v → v ≤ hi → (nat_le lo n && nat_le n hi && (n == v)) ≡ (n == v)
-value-at lo hi v n true e p q =
-    let same : n ≡ v = grind (arith, nat_tests, e) in
-    let low : nat_le lo n ≡ true = grind (arith, nat_tests, same) in
-    let high : nat_le n hi ≡ true = grind (arith, nat_tests, same) in
-    rw (low, high) refl
-value-at lo hi v n false e p q = rw e (and-false (nat_le lo n && nat_le n hi))
-
 value-is : (lo hi v : ℕ) (z : ℤ) → lo ≤ v → v ≤ hi → (is_between lo hi z && (unsigned_abs z == v)) ≡ is_value v z
-value-is lo hi v (pos n) p q = value-at lo hi v n (n == v) refl p q
+value-is lo hi v (pos n) p q = grind (arith, nat_tests, p, q)
 value-is lo hi v (negsuc n) p q = refl
 
 between-size : (lo hi : ℕ) (z : ℤ) → is_between lo hi z ≡ true → (lo ≤ unsigned_abs z) × (unsigned_abs z < lo + (hi + 1 - lo))
-between-size lo hi (pos n) h =
-    let low : lo ≤ n = grind (arith, nat_tests, h) in
-    let high : n ≤ hi = grind (arith, nat_tests, h) in
-    (low, omega (arith, low, high))
+between-size lo hi (pos n) h = grind (arith, nat_tests, h)
 between-size lo hi (negsuc n) h = absurd (false≢true h)
 
 -- what lies from lo to hi, sorted by size and with the order kept among those of one size, is listed by values

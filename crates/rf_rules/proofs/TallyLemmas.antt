@@ -39,6 +39,9 @@ both-more a b c xs ys p q = record {
 pub same-more : (a b : Tally) (xs ys : List Conflict) → xs ≡ ys → Extends a b xs → Extends a b ys
 same-more a b xs ys e p = let P : List Conflict → Type 0 = λ zs. Extends a b zs in subst P e p
 
+pub nothing : (a : Tally) (xs : List Conflict) → xs ≡ [] → Extends a a xs
+nothing a xs e = same-more a a _ _ (sym e) (none-more a)
+
 -- what is added to a tally that shows and counts the same conflicts
 pub from-same : (a b c : Tally) (xs : List Conflict) → b.shown.items ≡ a.shown.items → b.total ≡ a.total → Extends b c xs → Extends a c xs
 from-same a b c xs e f p = record { shown = p.shown ∙ ap (λ zs. shown_of (zs ++ xs)) e; total = omega (arith, p.total, f) }

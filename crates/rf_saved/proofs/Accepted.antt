@@ -1,9 +1,8 @@
 -- A search that is saved is accepted.
 use Rattle.std.proofs.Common.{◌≡◌, ◌∙◌, inr, ℕ, ◌+◌, ◌≤◌, List, [], ◌∷◌, ◌++◌, true, false, length, map, refl, ap, sym, subst, arith, append-nil, append_assoc, Option, Some, None}
-use Rattle.std.specs.Prelude.{IsTrue, codes, decimal, is_some}
+use Rattle.std.specs.Prelude.{codes, decimal, is_some}
 use Rattle.std.specs.List.{All, count_by, list_all}
 use Rattle.std.specs.Str.{bytes_eq}
-use Rattle.std.proofs.lemmas.Bool.{and_parts}
 use Rattle.std.proofs.lemmas.List.{length-map}
 use Rattle.std.proofs.lemmas.List.Elements.{All-weaker}
 use Rattle.rf_profiles.specs.Profile.{differ}
@@ -22,10 +21,10 @@ use Rattle.rf_log.specs.Solved.{Ending, IsSolved, is_refused, planned, refuted, 
 use Rattle.rf_log.specs.Walk.{Tree, cause_of, is_branch, tree_after, verdict_at_end, verdict_of, walk}
 use Rattle.rf_log.specs.Words.{words_in}
 use Rattle.rf_readback.specs.Law.{IsEnding, IsReadBack, WrittenReadsBack}
-use Rattle.rf_readback.proofs.OperandsBack.{number_back}
-use Rattle.rf_readback.proofs.WordsBack.{is_word, words_back}
+use Rattle.rf_readback.proofs.OperandLaws.{number_back}
+use Rattle.rf_readback.proofs.WordLaws.{is_word, words_back}
 use Rattle.rf_show.specs.Case.{case_of}
-use Rattle.rf_show.specs.Show.{ShowData, carrier_names, is_show}
+use Rattle.rf_show.specs.Show.{ShowData, carrier_names}
 use Rattle.rf_checker.specs.Carriers.{lines_over}
 use Rattle.rf_search.specs.declared.limits.TheConstants.{MAX_BUDGET}
 use Rattle.rf_solving.specs.Solving.{IsSearch, IsWritten, verdict_text}
@@ -35,6 +34,7 @@ use Rattle.rf_audit.specs.declared.answer.Audit.TheVariants.{Honest}
 use Rattle.rf_saved.proofs.Carried.{branches_over, branches_read, read_over}
 use Rattle.rf_saved.proofs.Honest.{started_same}
 use Rattle.rf_saved.proofs.Trimmed.{Aims, LineAims, aims_back, aims_on, trimmed, verdict_trimmed}
+use Rattle.rf_show.proofs.KeptLaws.{names_differ}
 
 -- ---- the verdict ends the log
 
@@ -95,12 +95,6 @@ verdict_moved n lines others spent same = refl
 
 -- ---- the whole
 
-names_apart : (show : ShowData) → IsTrue (is_show show) → differ (carrier_names show.carriers) ≡ true
-unfolding is_show
-names_apart show is =
-    let rest = and_parts _ _ (and_parts _ _ (and_parts _ _ is).0).0 in
-    (and_parts _ _ (and_parts _ _ (and_parts _ _ rest.1).0).0).1
-
 hint_target : (n : ℕ) (hint : Hint) → IsHintBelow n hint → Aims hint
 hint_target n (Earlier line) below = tt
 hint_target n (Ban carrier lo hi) below = tt
@@ -146,6 +140,6 @@ module _ (read_back : WrittenReadsBack) (sound : ClosedHasNoPlan) (all_honest : 
       = subst (λ (k : ℕ). All (IsLineBelow k) search.log) (sym many)
       (All-weaker (IsWritten (length show.carriers)) (IsLineBelow (length show.carriers)) (λ line h. h.known) search.log search.written) in
       let short : All IsShortLine search.log = All-weaker (IsWritten (length show.carriers)) IsShortLine (λ line h. h.short) search.log search.written in
-      accepted_by show n ending text search (names_apart show is)
+      accepted_by show n ending text search (names_differ show is)
       (subst (λ (bytes : List ℕ). IsReadBack names search.log bytes) (sym search.is)
       (read_back names search.log (verdict_text show n ending) named below short (inr (ends_log show n ending few))))

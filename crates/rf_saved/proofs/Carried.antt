@@ -1,9 +1,9 @@
 -- The lines that are read back, over the show that they were written for, are the lines that were written, but for roles
 -- beyond those of a rule's kind.
-use Rattle.std.proofs.Common.{◌≡◌, ◌∙◌, ℕ, zero, suc, ◌<◌, List, [], ◌∷◌, Bool, true, false, cond, not, ◌||◌, length, map, take, get_or, refl, ap, sym, arith}
+use Rattle.std.proofs.Common.{◌≡◌, ◌∙◌, ℕ, zero, suc, ◌<◌, List, [], ◌∷◌, Bool, true, false, cond, not, length, map, take, get_or, refl, ap, sym, arith}
 use Rattle.std.specs.List.{All, AllZip, count_by, list_any, position_or_len}
 use Rattle.std.specs.Cmp.Lexicographic.{bytes_decides}
-use Rattle.std.proofs.lemmas.Bool.{and_parts}
+use Rattle.std.proofs.lemmas.Bool.{and_parts, or_parts, not-true}
 use Rattle.std.proofs.lemmas.List.{get_or-map, length-map, map-id, take-map}
 use Rattle.rf_base.specs.Name.{same_name}
 use Rattle.rf_profiles.specs.Profile.{differ}
@@ -25,18 +25,10 @@ use Rattle.rf_saved.proofs.Trimmed.{trimmed, trimmed_hint, branch_trimmed}
 
 -- ---- a carrier's name has the carrier's place
 
-not_true : (b : Bool) → not b ≡ true → b ≡ false
-not_true true h = cc
-not_true false h = refl
-
-or_none : (a b : Bool) → (a || b) ≡ false → (a ≡ false) × (b ≡ false)
-or_none true b h = absurd (cc)
-or_none false b h = (refl, h)
-
 no_place : (p : List ℕ → Bool) (names : List (List ℕ)) (i : ℕ) → list_any p names ≡ false → i < length names → p (get_or names i []) ≡ false
 no_place p [] i none low = absurd (omega (arith, low))
-no_place p (name ∷ names) zero none low = (or_none (p name) (list_any p names) none).0
-no_place p (name ∷ names) (suc i) none low = no_place p names i (or_none (p name) (list_any p names) none).1 (omega (arith, low))
+no_place p (name ∷ names) zero none low = (or_parts (p name) (list_any p names) none).0
+no_place p (name ∷ names) (suc i) none low = no_place p names i (or_parts (p name) (list_any p names) none).1 (omega (arith, low))
 
 first_is : (p : Carrier → Bool) (c : Carrier) (cs : List Carrier) → p c ≡ true → position_or_len p (c ∷ cs) ≡ 0
 first_is p c cs h = rw h refl
@@ -51,7 +43,7 @@ own_place (carrier ∷ carriers) (suc c) apart low =
     let parts = and_parts (not (list_any (same_name carrier.name) (carrier_names carriers))) (differ (carrier_names carriers)) apart in
     let here : c < length (carrier_names carriers) = simp length-map (omega (arith, low)) in
     later_is (is_carrier (name_at (carrier_names carriers) c)) carrier carriers c
-    (no_place (same_name carrier.name) (carrier_names carriers) c (not_true (list_any (same_name carrier.name) (carrier_names carriers)) parts.0) here)
+    (no_place (same_name carrier.name) (carrier_names carriers) c (not-true (list_any (same_name carrier.name) (carrier_names carriers)) parts.0) here)
     (own_place carriers c parts.1 (omega (arith, low)))
 
 -- ---- lines over the show

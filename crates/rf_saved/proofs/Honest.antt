@@ -1,22 +1,13 @@
 -- The branchings of the lines that are read back are honest where those that were written are.
-use Rattle.std.proofs.Common.{◌≡◌, ◌∙◌, ℕ, ◌+◌, ◌≤◌, List, [], ◌∷◌, false, map, refl, ap, sym, subst, Option, Some, None}
+use Rattle.std.proofs.Common.{◌≡◌, ◌∙◌, ℕ, ◌+◌, ◌≤◌, List, [], ◌∷◌, map, refl, ap, sym, subst, Some}
 use Rattle.std.specs.List.{All, count_by}
 use Rattle.rf_log.specs.declared.line.LogLine.{LogLine}
 use Rattle.rf_log.specs.declared.line.LogLine.TheVariants.{Nogood, Branch, Up}
 use Rattle.rf_log.specs.Case.{Case}
-use Rattle.rf_log.specs.LogText.{LogData}
 use Rattle.rf_log.specs.Solved.{IsHonestFrom, IsHonestLine, IsStarted, is_nogood, is_refused}
 use Rattle.rf_log.specs.Walk.{Tree, is_branch, tree_after, verdict_of}
-use Rattle.rf_show.specs.Show.{ShowData}
-use Rattle.rf_checker.specs.Carriers.{line_with, lines_over, place_at, places_named}
 use Rattle.rf_saved.proofs.ListLemmas.{count_mapped}
-use Rattle.rf_saved.proofs.Trimmed.{LineAims, branch_trimmed, trimmed, verdict_trimmed}
-
-after_trimmed : (tree : Tree) (line : LogLine) → tree_after tree (trimmed line) ≡ tree_after tree line
-after_trimmed None line = refl
-after_trimmed (Some path) (Nogood conds hints) = refl
-after_trimmed (Some path) (Branch cut carrier at) = refl
-after_trimmed (Some path) (Up line) = refl
+use Rattle.rf_saved.proofs.Trimmed.{LineAims, branch_trimmed, trimmed, verdict_trimmed, tree_trimmed}
 
 line_on : (case : Case) (tree : Tree) (line : LogLine) → IsHonestLine case tree line → IsHonestLine case tree (trimmed line)
 line_on case tree (Nogood conds hints) honest = tt
@@ -31,12 +22,12 @@ line_back case tree (Up line) honest = tt
 honest_on : (case : Case) (tree : Tree) (lines : List LogLine) → IsHonestFrom case tree lines → IsHonestFrom case tree (map trimmed lines)
 honest_on case tree [] honest = tt
 honest_on case tree (line ∷ lines) honest =
-    (line_on case tree line honest.0, subst (λ (t : Tree). IsHonestFrom case t (map trimmed lines)) (sym (after_trimmed tree line)) (honest_on case (tree_after tree line) lines honest.1))
+    (line_on case tree line honest.0, subst (λ (t : Tree). IsHonestFrom case t (map trimmed lines)) (sym (tree_trimmed tree line)) (honest_on case (tree_after tree line) lines honest.1))
 
 honest_back : (case : Case) (tree : Tree) (lines : List LogLine) → IsHonestFrom case tree (map trimmed lines) → IsHonestFrom case tree lines
 honest_back case tree [] honest = tt
 honest_back case tree (line ∷ lines) honest =
-    (line_back case tree line honest.0, honest_back case (tree_after tree line) lines (subst (λ (t : Tree). IsHonestFrom case t (map trimmed lines)) (after_trimmed tree line) honest.1))
+    (line_back case tree line honest.0, honest_back case (tree_after tree line) lines (subst (λ (t : Tree). IsHonestFrom case t (map trimmed lines)) (tree_trimmed tree line) honest.1))
 
 nogood_trimmed : (line : LogLine) → is_nogood (trimmed line) ≡ is_nogood line
 nogood_trimmed (Nogood conds hints) = refl

@@ -1,5 +1,5 @@
-pub mod ListLemmas
-pub mod Trimmed
-pub mod Carried
-pub mod Honest
-pub mod Accepted
+mod Accepted
+mod Carried
+mod Honest
+mod ListLemmas
+mod Trimmed

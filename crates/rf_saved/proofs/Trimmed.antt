@@ -157,7 +157,7 @@ module _ (case : Case) (done : List LogLine) where
 
 -- ---- the walk
 
-tree_trimmed : (tree : Tree) (line : LogLine) → tree_after tree (trimmed line) ≡ tree_after tree line
+pub tree_trimmed : (tree : Tree) (line : LogLine) → tree_after tree (trimmed line) ≡ tree_after tree line
 tree_trimmed None line = refl
 tree_trimmed (Some path) (Nogood conds hints) = refl
 tree_trimmed (Some path) (Branch cut carrier at) = refl

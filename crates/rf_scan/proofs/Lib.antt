@@ -1,5 +1,5 @@
-pub mod TrimLemmas
-pub mod RecordLemmas
-pub mod ScanLemmas
-pub mod HotLemmas
-pub mod RisingLemmas
+mod HotLemmas
+mod RecordLemmas
+mod RisingLemmas
+mod ScanLemmas
+mod TrimLemmas

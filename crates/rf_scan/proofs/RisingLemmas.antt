@@ -10,6 +10,7 @@ use native.Mathlib.Numerals.{unary_clauses}
 use Rattle.rf_base.specs.declared.decimal.Decimal.{Decimal}
 use Rattle.rf_scan.specs.Hot.{hot_frequencies, hot_of, put_in, rising}
 use Rattle.rf_scan.specs.declared.point.Point.{Point}
+use Rattle.rf_base.proofs.BoolLaws.{or_swap}
 
 abbrev has : ℕ → List ℕ → Bool
 has q xs = list_any (nat_eq q) xs
@@ -67,18 +68,13 @@ twice : (a b : Bool) → (a || b) ≡ (a || (a || b))
 twice true b = refl
 twice false b = refl
 
-swapped : (a b c : Bool) → (a || (b || c)) ≡ (b || (a || c))
-swapped true true c = refl
-swapped true false c = refl
-swapped false b c = refl
-
 has-put_in : (q x : ℕ) (xs : List ℕ) → has q (put_in x xs) ≡ (nat_eq q x || has q xs)
 has-put_in q x [] = refl
 has-put_in q x (y ∷ ys) = elim (cases_Bool (nat_lt x y)) [
   | inl e ↦ rw e refl
   | inr e ↦ elim (cases_Bool (nat_eq x y)) [
     | inl f ↦ let is : x ≡ y = grind (arith, nat_tests) in rw (e, f) (rw is (twice (nat_eq q y) (has q ys)))
-    | inr f ↦ rw (e, f) (rw (has-put_in q x ys) (swapped (nat_eq q y) (nat_eq q x) (has q ys)))
+    | inr f ↦ rw (e, f) (rw (has-put_in q x ys) (or_swap (nat_eq q y) (nat_eq q x) (has q ys)))
   ]
 ]
 

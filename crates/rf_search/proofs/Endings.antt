@@ -1,21 +1,14 @@
--- The endings of a search after Quiet: a plan, or the budget spent.
-use Rattle.std.proofs.Common.{◌≡◌, ℕ, ◌<◌, List, [], ◌∷◌, length, true, refl, arith, inl, inr, slice_index}
-use Rattle.std.specs.Prelude.{Contains, IsTrue}
-use Rattle.std.specs.List.{count_by}
-use Rattle.std.proofs.lemmas.Bool.{cases_Bool, and_parts, eqb-true}
+-- A search that ends after Quiet, with one index of each carrier, has a plan.
+use Rattle.std.proofs.Common.{◌≡◌, ℕ, ◌<◌, List, [], ◌∷◌, length, true, refl, arith, inl, inr, slice_index, Contains, IsTrue, eqb-true}
+use Rattle.std.proofs.lemmas.Bool.{cases_Bool, and_parts}
 use Rattle.rf_terms.specs.declared.kind.Kind.{Kind}
-use Rattle.rf_log.specs.declared.cond.Cond.{Cond}
-use Rattle.rf_log.specs.declared.line.LogLine.{LogLine}
 use Rattle.rf_terms.specs.Kinds.{roles_of}
 use Rattle.rf_terms.proofs.KindLaws.{two_roles}
 use Rattle.rf_log.specs.Case.{Case, IsPlan, count_of, is_instance, breaks}
 use Rattle.rf_log.specs.Box.{Box}
 use Rattle.rf_log.specs.Relations.{members, IsSole, IsStruck}
-use Rattle.rf_log.specs.Walk.{is_branch}
-use Rattle.rf_log.specs.Solved.{IsSolved, spent, planned}
-use Rattle.rf_log.proofs.Instances.{known_role}
-use Rattle.rf_propagate.specs.Laws.{IsQuiet, HasEveryKind, IsClosed}
-use Rattle.rf_search.specs.State.{IsSearching}
+use Rattle.rf_log.proofs.CaseLaws.{known_role}
+use Rattle.rf_propagate.specs.Laws.{IsQuiet, HasEveryKind}
 
 -- the list has the one index of each carrier
 pub record AreSole (case : Case) (box : Box) (plan : List ℕ) : Type 0 where
@@ -54,24 +47,3 @@ plan_from case kinds box plan every quiet sole = record {
           breaks = broken;
         } in
         quiet.settled r (slice_index plan r) (sole.each r low).0 struck
-
-pub ends_in_plan : (case : Case) (n : ℕ) (log : List LogLine) (path : List Cond) (kinds : List Kind) (box : Box) (plan : List ℕ)
-    → IsSearching case n 0 log path → HasEveryKind kinds → IsQuiet case kinds true (members box) → AreSole case box plan → IsSolved case n log (planned plan)
-ends_in_plan case n log path kinds box plan at every quiet sole = record { started = at.started; ends = plan_from case kinds box plan every quiet sole }
-
-pub ends_spent : (case : Case) (n : ℕ) (log : List LogLine) (path : List Cond) (box : Box) (c k j : ℕ) → IsSearching case n 0 log path
-    → IsClosed case path (members box) → count_by is_branch log ≡ n → c < length case.carriers
-    → box c k ≡ true → box c j ≡ true → (j ≡ k → ⊥) → IsSolved case n log spent
-ends_spent case n log path box c k j at closed all known here there other = record {
-  started = at.started;
-  ends = record {
-    all = all;
-    path = path;
-    at = at.at;
-    living = closed.living;
-    carrier = c;
-    known = known;
-    one = (k, closed.within c k here);
-    other = (j, closed.within c j there, other);
-  };
-}

@@ -1,16 +1,14 @@
 -- Hints of any kind: applied in order from the box of all decisions, they have effects until a set is empty.
-use Rattle.std.proofs.Common.{◌≡◌, ℕ, ◌==◌, List, [], ◌∷◌, ◌++◌, length, true, false, not, ◌&&◌, refl, sym, ◌∙◌, ap, subst, ◌⊎◌, inl, inr, slice_index, take, append_assoc}
-use Rattle.std.specs.Prelude.{Option, Some, None, nat_lt}
-use Rattle.std.proofs.lemmas.Bool.{cases_Bool, and_parts, and_from, true≢false, eqb-true, not_from_false}
-use Rattle.std.proofs.lemmas.List.{append-nil}
+use Rattle.std.proofs.Common.{◌≡◌, ℕ, ◌==◌, List, [], ◌∷◌, ◌++◌, true, false, not, ◌&&◌, refl, sym, ◌∙◌, ap, subst, ◌⊎◌, inl, inr, slice_index, take, append_assoc, Option, Some}
+use Rattle.std.proofs.Common.{None, nat_lt, true≢false, eqb-true, append-nil}
+use Rattle.std.proofs.lemmas.Bool.{cases_Bool, and_parts, and_from, not_from_false}
 use Rattle.rf_log.specs.declared.cond.Cond.{Cond}
 use Rattle.rf_log.specs.declared.hint.Hint.{Hint}
 use Rattle.rf_log.specs.declared.hint.Hint.TheVariants.{Earlier, Ban, Rule}
 use Rattle.rf_terms.specs.Kinds.{roles_of}
 use Rattle.rf_log.specs.Case.{Case, counts_of, count_of}
-use Rattle.rf_log.specs.Box.{Box, between, is_met, is_met_by, box_of, has_none, is_dead, without, nothing, each_below}
+use Rattle.rf_log.specs.Box.{Box, between, is_met, is_met_by, box_of, is_dead, without, nothing}
 use Rattle.rf_log.specs.Hints.{Line, line_at, left_open, by_open, by_line, is_barred, is_ruled_out, effect_of, after_hints_of, is_dead_after}
-use Rattle.rf_log.proofs.Kept.{some_when, each_below-at, each_below-from}
 use Rattle.rf_search.proofs.Narrow.{Lies, Lives, keeps-living, lies-on, effect-narrows}
 use Rattle.rf_domain.specs.Sets as sets
 use Rattle.rf_trail.specs.declared.entry.Entry.{Entry}
@@ -19,8 +17,12 @@ use Rattle.rf_propagate.specs.Laws.{IsJustified}
 use Rattle.rf_search.specs.State.{Agrees}
 use Rattle.rf_search.proofs.Steps.{effect-agrees}
 use Rattle.rf_search.specs.Paths.{Grown, start, decide, because, hint_in, hints_of}
-use Rattle.rf_search.proofs.Sizes.{size_is, lives_from, decided_leaves}
-use Rattle.rf_search.proofs.WholeTrail.{cutting, same_cut, after_push, hints_decided, same_lies, and_true_is, head_and}
+use Rattle.rf_search.proofs.Sizes.{lives_from, decided_leaves}
+use Rattle.rf_search.proofs.Replaying.{living_not_dead}
+use Rattle.rf_search.proofs.WholeTrail.{cutting, same_cut, after_push, hints_decided, same_lies, head_and}
+use mathlib.Core.Bool.{and-true}
+use Rattle.rf_base.proofs.OptionLaws.{some_when}
+use Rattle.rf_propagate.proofs.LineLaws.{size_is}
 
 open-shrinks : (box next : Box) (conds : List Cond) → by_open box conds ≡ Some next → Lies next box
 open-shrinks box next [] e =
@@ -101,7 +103,7 @@ reach case lines found b agrees start below = elim (cases_Bool (is_dead case b))
     works = refl;
     start = same_lies refl;
     living = living;
-    lies = record { each = λ c k h. ap (nat_lt k) (size_is case c) ∙ sym (and_true_is (nat_lt k (count_of case c))) ∙ below.each c k h };
+    lies = record { each = λ c k h. ap (nat_lt k) (size_is case c) ∙ sym (and-true (nat_lt k (count_of case c))) ∙ below.each c k h };
   })
 ]
 reach case lines found b agrees (decide {path} {es} {cond} grown ordered known) below =
@@ -139,18 +141,7 @@ reach case lines found b agrees (because {path} {es} {e} grown why) below =
 -- a box within a dead one is dead
 pub dead_within : (case : Case) (small box : Box) → Lies small box → is_dead case box ≡ true → is_dead case small ≡ false → ⊥
 dead_within case small box lies dead living =
-    let lives = lives_from case small living in
-    let each : each_below (length case.carriers) (λ c. not (has_none case box c)) ≡ true =
-    each_below-from (length case.carriers) (λ c. not (has_none case box c)) (λ c low. elim (cases_Bool (has_none case box c)) [
-      | inr some ↦ not_from_false _ some
-      | inl none ↦
-          let r = lives.each c low in
-          let gone : not (box c r.0) ≡ true = each_below-at (count_of case c) (λ k. not (box c k)) r.0 none r.1 in
-          let here : box c r.0 ≡ true = lies.each c r.0 r.2 in
-          let clash : not true ≡ true = ap not (sym here) ∙ gone in
-          absurd (true≢false (sym clash))
-    ]) in
-    true≢false (sym dead ∙ ap not each)
+    true≢false (sym dead ∙ living_not_dead case box (record { each = λ c low. let r = (lives_from case small living).each c low in (r.0, r.1, lies.each c r.0 r.2) }))
 
 pub ended : (case : Case) (lines : List Line) (found : ℕ → Option (List Cond)) (path : List Cond) (es : List Entry) → Agrees (line_at lines) found
     → Grown case lines path es → is_dead case (has_of (counts_of case) es) ≡ true → IsEnded case found (box_of case path) (hints_of es)

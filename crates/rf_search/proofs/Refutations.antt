@@ -3,7 +3,7 @@ use Rattle.std.proofs.Common.{◌≡◌, ℕ, zero, suc, ◌<◌, ◌≤◌, Lis
 use Rattle.std.specs.Prelude.{Option, Some, None, is_some, All, Contains, nat_lt, slice_index_or}
 use Rattle.std.specs.List.{list_all}
 use Rattle.std.proofs.lemmas.List.Elements.{All-nil, All-cons}
-use Rattle.std.proofs.lemmas.Bool.{and_parts, and_from, true≢false, lt-ltb}
+use Rattle.std.proofs.lemmas.Bool.{and_parts, and_from, true≢false}
 use Rattle.rf_terms.specs.Kinds.{roles_of}
 use Rattle.rf_log.specs.declared.cond.Cond.{Cond}
 use Rattle.rf_log.specs.declared.hint.Hint.{Hint}
@@ -26,6 +26,7 @@ use Rattle.rf_trail.specs.declared.entry.Entry.{Entry}
 use Rattle.rf_search.proofs.LineValid.{known_range, is_known, line_valid, conds_of}
 use Rattle.rf_search.proofs.WritableLemmas.{index_short, line_writable}
 use Rattle.rf_search.proofs.Steps.{effect-agrees}
+use Rattle.rf_base.proofs.ListLaws.{tested_below}
 
 conds_in_range : (case : Case) (conds : List Cond) → AreInRange case conds → (list_all (knows_cond case) conds ≡ true) × (list_all (fits_cond case) conds ≡ true)
 conds_in_range case [] range = (refl, refl)
@@ -38,26 +39,21 @@ conds_in_range case (cond ∷ conds) range =
     }) in
     (and_from (knows_cond case cond) _ here.0 rest.0, and_from (fits_cond case cond) _ here.1 rest.1)
 
-all_carriers : (n : ℕ) (cs : List ℕ) → All (λ c. c < n) cs → list_all (λ c. nat_lt c n) cs ≡ true
-all_carriers n [] all = refl
-all_carriers n (c ∷ cs) all = and_from (nat_lt c n) _ (lt-ltb c n (all 0 c (omega arith))) (all_carriers n cs (λ k d low. all (suc k) d (omega arith)))
-
 one_known : (case : Case) (lines : List Line) (log : List LogLine) (b next : Box) (hint : Hint) → Agrees (line_at lines) (nogood_at log) → IsHintIn case hint
     → effect_of case (line_at lines) b hint ≡ Some next → is_known case log hint ≡ true
 one_known case lines log b next (Earlier line) agrees fit works =
     let P : Option (List Cond) → Type 0 = λ o. line_at lines line ≡ o → by_line case b o ≡ Some next → is_some (nogood_at log line) ≡ true in
-    let all : (o : Option (List Cond)) → P o = λ o. elim o as P [
+    (elim (line_at lines line) as P [
       | None ↦ λ is w. cc
       | Some conds ↦ λ is w. ap is_some (agrees.each line conds is)
-    ] in
-    all (line_at lines line) refl works
+    ]) refl works
 one_known case lines log b next (Ban carrier lo hi) agrees fit works =
     let r = known_range case carrier lo hi fit.ordered fit.known in
     and_from (nat_lt carrier (length case.carriers)) _ r.0 (and_from (fits case carrier lo hi) _ r.1 refl)
 one_known case lines log b next (Rule kind roles target lo hi) agrees fit works =
     let c = slice_index roles target in
     let r = known_range case c lo hi fit.1.ordered fit.1.known in
-    and_from (list_all (λ c. nat_lt c (length case.carriers)) (take (roles_of kind) roles)) _ (all_carriers (length case.carriers) (take (roles_of kind) roles) fit.0.known)
+    and_from (list_all (λ c. nat_lt c (length case.carriers)) (take (roles_of kind) roles)) _ (tested_below (length case.carriers) (take (roles_of kind) roles) fit.0.known)
     (and_from (fits case c lo hi) _ r.1 refl)
 
 tail_all : {A : Type 0} (P : A → Type 0) (x : A) (xs : List A) → All P (x ∷ xs) → All P xs
@@ -72,7 +68,7 @@ replayed_in case lines log b (hint ∷ hints) agrees fit dead =
     let Goal : Type 0 = (list_all (is_known case log) (hint ∷ hints) ≡ true) × (is_dead_after case (after_hints_of case (nogood_at log) b (hint ∷ hints)) ≡ true) in
     let P : Option Box → Type 0 = λ o. effect_of case (line_at lines) b hint ≡ o
     → is_dead_after case (elim o as (λ _. Option Box) [ None ↦ None | Some x ↦ after_hints_of case (line_at lines) x hints ]) ≡ true → Goal in
-    let all : (o : Option Box) → P o = λ o. elim o as P [
+    (elim (effect_of case (line_at lines) b hint) as P [
       | None ↦ λ is e. absurd (true≢false (sym e))
       | Some x ↦ λ is e.
           let rest = replayed_in case lines log x hints agrees (tail_all (IsHintIn case) hint hints fit) e in
@@ -80,8 +76,7 @@ replayed_in case lines log b (hint ∷ hints) agrees fit dead =
             and_from (is_known case log hint) _ (one_known case lines log b x hint agrees (fit 0 hint (omega arith)) is) rest.0,
             ap (λ (o : Option Box). is_dead_after case (elim o as (λ _. Option Box) [ None ↦ None | Some y ↦ after_hints_of case (nogood_at log) y hints ])) here ∙ rest.1,
           )
-    ] in
-    all (effect_of case (line_at lines) b hint) refl dead
+    ]) refl dead
 
 conds_short : (case : Case) (conds : List Cond) → AreCounts (counts_of case) → AreInRange case conds → All (IsCondOf (length case.carriers)) conds
 conds_short case [] small range = All-nil (IsCondOf (length case.carriers))

@@ -1,83 +1,63 @@
 -- Hints that are applied in order until a set is empty.
-use Rattle.std.proofs.Common.{◌≡◌, ℕ, zero, suc, ◌+◌, ◌<◌, ◌≤◌, ◌==◌, List, [], ◌∷◌, ◌++◌, length, take, get_or, Bool, true, false, not, ◌&&◌, ◌||◌, refl, sym, ◌∙◌, ap, subst, arith, inl, inr}
-use Rattle.std.specs.Prelude.{Option, Some, None, All, nat_lt, slice_index_or, if◌then◌else◌}
+use Rattle.std.proofs.Common.{◌≡◌, ℕ, zero, suc, ◌+◌, ◌<◌, ◌≤◌, ◌==◌, List, [], ◌∷◌, ◌++◌, length, take, get_or, Bool, true, false, not, ◌&&◌, ◌||◌, refl, sym, ◌∙◌, ap, subst, arith, inl}
+use Rattle.std.proofs.Common.{inr, Option, Some, None, All, nat_lt, slice_index_or, true≢false}
 use Rattle.std.specs.List.{list_all}
-use Rattle.std.proofs.lemmas.List.{take_more, take_all, length-map}
-use Rattle.std.proofs.lemmas.Bool.{cases_Bool, cases_lt, cases_eq, not_from_false, true≢false}
-use Rattle.std.proofs.lemmas.Bool.Decides.{nat_tests}
+use Rattle.std.proofs.lemmas.List.{take_more, length-map}
+use Rattle.std.proofs.lemmas.List.Elements.{All-push}
+use Rattle.std.proofs.lemmas.Bool.{cases_Bool, cases_lt, cases_eq, not_from_false}
 use Rattle.std.proofs.Math.Path.{fun_ext}
+use mathlib.Core.Bool.{and-true, and_assoc, not-not}
 use Rattle.rf_log.specs.declared.cond.Cond.{Cond}
 use Rattle.rf_log.specs.declared.hint.Hint.{Hint}
 use Rattle.rf_log.specs.Case.{Case, counts_of, count_of}
-use Rattle.rf_log.specs.Box.{Box, each_below, has_none, between, is_met_by, box_of, is_dead}
+use Rattle.rf_log.specs.Box.{Box, each_below, has_none, between, is_met, is_met_by, box_of, is_dead}
 use Rattle.rf_log.specs.Hints.{effect_of, after_hints_of, is_dead_after}
-use Rattle.rf_domain.specs.Indices.{outside}
+use Rattle.rf_domain.specs.Indices.{outside, HasNoneFrom}
 use Rattle.rf_domain.specs.Sets as sets
 use Rattle.rf_propagate.specs.Applied.{IsHintIn}
-use Rattle.rf_search.specs.Replays.{IsReplayed, IsNotReplayed}
+use Rattle.rf_search.specs.Replays.{IsNotReplayed}
 use Rattle.rf_search.proofs.WholeTrail.{after_push}
 use Rattle.rf_search.proofs.Narrow.{Lives}
-use Rattle.rf_search.proofs.Sizes.{size_is}
 use Rattle.rf_search.proofs.LineValid.{dead_from}
-use Rattle.rf_log.proofs.Kept.{each_below-at, each_below-from}
-use Rattle.rf_log.proofs.Instances.{counts_length}
-use Rattle.rf_domain.proofs.SetsLemmas.{size_get}
-use Rattle.rf_domain.specs.Indices.{HasNoneFrom}
+use Rattle.rf_log.proofs.CaseLaws.{counts_length}
+use Rattle.rf_domain.proofs.SetsLaws.{size_get}
+use Rattle.rf_base.proofs.NumberLaws.{eq_swap}
+use Rattle.rf_base.proofs.ListLaws.{flag_low}
+use Rattle.rf_log.proofs.BoxLaws.{each_below-at, each_below-from}
+use Rattle.rf_propagate.proofs.LineLaws.{size_is}
 
 -- ---- the box of conditions
 
 all_last : {A : Type 0} (p : A → Bool) (xs : List A) (x : A) → list_all p (xs ++ x ∷ []) ≡ (list_all p xs && p x)
-all_last p [] x = last (p x)
-  where
-    last : (b : Bool) → (b && true) ≡ b
-    last true = refl
-    last false = refl
-all_last p (y ∷ ys) x = ap (λ t. p y && t) (all_last p ys x) ∙ assoc (p y) (list_all p ys) (p x)
-  where
-    assoc : (a b c : Bool) → (a && (b && c)) ≡ ((a && b) && c)
-    assoc true b c = refl
-    assoc false b c = refl
+all_last p [] x = and-true (p x)
+all_last p (y ∷ ys) x = ap (λ t. p y && t) (all_last p ys x) ∙ sym (and_assoc (p y) (list_all p ys) (p x))
 
 box_more : (case : Case) (conds : List Cond) (cond : Cond) (c k : ℕ) → box_of case (conds ++ cond ∷ []) c k ≡ (box_of case conds c k && is_met_by c k cond)
 box_more case conds cond c k = ap (λ t. nat_lt k (count_of case c) && t) (all_last (is_met_by c k) conds cond) ∙
-    assoc (nat_lt k (count_of case c)) (list_all (is_met_by c k) conds) (is_met_by c k cond)
-  where
-    assoc : (a b c : Bool) → (a && (b && c)) ≡ ((a && b) && c)
-    assoc true b c = refl
-    assoc false b c = refl
+    sym (and_assoc (nat_lt k (count_of case c)) (list_all (is_met_by c k) conds) (is_met_by c k cond))
 
-swapped : (a b : ℕ) → (a == b) ≡ (b == a)
-swapped a b = grind (arith, nat_tests)
+kept : (b same gone met : Bool) → gone ≡ not met → (b && not (same && gone)) ≡ (b && (not same || met))
+kept false same gone met is = refl
+kept true false gone met is = refl
+kept true true gone true is = rw is refl
+kept true true gone false is = rw is refl
 
-kept_in : (b same t : Bool) → (b && not (same && not t)) ≡ (b && (not same || t))
-kept_in false same t = refl
-kept_in true false t = refl
-kept_in true true true = refl
-kept_in true true false = refl
-
-kept_out : (b same t : Bool) → (b && not (same && t)) ≡ (b && (not same || not t))
-kept_out false same t = refl
-kept_out true false t = refl
-kept_out true true true = refl
-kept_out true true false = refl
+-- the indices that do not meet one condition more are gone
+narrow : (case : Case) (conds : List Cond) (cond : Cond) (old new : Box) (gone : ℕ → Bool) → ((k : ℕ) → gone k ≡ not (is_met cond k)) → old ≡ box_of case conds
+    → new ≡ sets.without old cond.carrier gone → new ≡ box_of case (conds ++ cond ∷ [])
+narrow case conds cond old new gone away is cut = cut ∙ fun_ext λ c. fun_ext λ k.
+    kept (old c k) (c == cond.carrier) (gone k) (is_met cond k) (away k)
+    ∙ ap (λ t. old c k && (not t || is_met cond k)) (eq_swap c cond.carrier)
+    ∙ ap (λ (f : Box). f c k && is_met_by c k cond) is
+    ∙ sym (box_more case conds cond c k)
 
 pub narrow_in : (case : Case) (conds : List Cond) (cond : Cond) (old new : Box) → cond.inside ≡ true → old ≡ box_of case conds
     → new ≡ sets.without old cond.carrier (outside cond.lo cond.hi) → new ≡ box_of case (conds ++ cond ∷ [])
-narrow_in case conds cond old new in_ is cut = cut ∙ fun_ext λ c. fun_ext λ k.
-    kept_in (old c k) (c == cond.carrier) (between cond.lo cond.hi k)
-    ∙ ap (λ t. old c k && (not t || between cond.lo cond.hi k)) (swapped c cond.carrier)
-    ∙ ap (λ t. old c k && (not (cond.carrier == c) || t)) (sym (ap (λ (t : Bool). if t then between cond.lo cond.hi k else not (between cond.lo cond.hi k)) in_))
-    ∙ ap (λ (f : Box). f c k && is_met_by c k cond) is
-    ∙ sym (box_more case conds cond c k)
+narrow_in case conds cond old new in_ = narrow case conds cond old new (outside cond.lo cond.hi) (λ k. rw in_ refl)
 
 pub narrow_out : (case : Case) (conds : List Cond) (cond : Cond) (old new : Box) → cond.inside ≡ false → old ≡ box_of case conds
     → new ≡ sets.without old cond.carrier (between cond.lo cond.hi) → new ≡ box_of case (conds ++ cond ∷ [])
-narrow_out case conds cond old new out is cut = cut ∙ fun_ext λ c. fun_ext λ k.
-    kept_out (old c k) (c == cond.carrier) (between cond.lo cond.hi k)
-    ∙ ap (λ t. old c k && (not t || not (between cond.lo cond.hi k))) (swapped c cond.carrier)
-    ∙ ap (λ t. old c k && (not (cond.carrier == c) || t)) (sym (ap (λ (t : Bool). if t then between cond.lo cond.hi k else not (between cond.lo cond.hi k)) out))
-    ∙ ap (λ (f : Box). f c k && is_met_by c k cond) is
-    ∙ sym (box_more case conds cond c k)
+narrow_out case conds cond old new out = narrow case conds cond old new (between cond.lo cond.hi) (λ k. rw out (sym (not-not (between cond.lo cond.hi k))))
 
 -- ---- the hints
 
@@ -87,12 +67,6 @@ pub record IsOnWay (case : Case) (found : ℕ → Option (List Cond)) (b : Box) 
   pub fit : All (IsHintIn case) (take n hints)
   pub living : (m : ℕ) → m < n → is_dead_after case (after_hints_of case found b (take m hints)) ≡ false
 
-pub all_more : {A : Type 0} (P : A → Type 0) (xs : List A) (x : A) → All P xs → P x → All P (xs ++ x ∷ [])
-all_more P [] x all here zero d low = here
-all_more P [] x all here (suc k) d low = absurd (omega arith)
-all_more P (y ∷ ys) x all here zero d low = all 0 d (omega arith)
-all_more P (y ∷ ys) x all here (suc k) d low = all_more P ys x (λ j e below. all (suc j) e (omega arith)) here k d (omega arith)
-
 pub way_more : (case : Case) (found : ℕ → Option (List Cond)) (b : Box) (hints : List Hint) (now next : Box) (n : ℕ) (hint : Hint) → n < length hints
     → get_or hints n hint ≡ hint → IsOnWay case found b hints now n → is_dead case now ≡ false → effect_of case found now hint ≡ Some next → IsHintIn case hint
     → IsOnWay case found b hints next (n + 1)
@@ -100,7 +74,7 @@ way_more case found b hints now next n hint low is way living works fits =
     let one : take (n + 1) hints ≡ take n hints ++ hint ∷ [] = take_more hints n hint low ∙ ap (λ (h : Hint). take n hints ++ h ∷ []) is in
     record {
       works = ap (after_hints_of case found b) one ∙ after_push case found b now next (take n hints) hint way.works works;
-      fit = subst (λ (hs : List Hint). All (IsHintIn case) hs) (sym one) (all_more (IsHintIn case) (take n hints) hint way.fit fits);
+      fit = subst (λ (hs : List Hint). All (IsHintIn case) hs) (sym one) (All-push (IsHintIn case) (take n hints) hint way.fit fits);
       living = λ m below. elim (cases_eq m n) [
         | inl last ↦ ap (λ j. is_dead_after case (after_hints_of case found b (take j hints))) last ∙ ap (is_dead_after case) way.works ∙ living
         | inr other ↦ way.living m (omega arith)
@@ -117,11 +91,10 @@ after_stuck case found b mid (h ∷ hs) rest hint first stuck =
     let P : Option Box → Type 0 = λ o.
     (elim o as (λ _. Option Box) [ None ↦ None | Some x ↦ after_hints_of case found x hs ]) ≡ Some mid
     → (elim o as (λ _. Option Box) [ None ↦ None | Some x ↦ after_hints_of case found x (hs ++ hint ∷ rest) ]) ≡ None in
-    let all : (o : Option Box) → P o = λ o. elim o as P [
+    (elim (effect_of case found b h) as P [
       | None ↦ λ e. refl
       | Some x ↦ λ e. after_stuck case found x mid hs rest hint e stuck
-    ] in
-    all (effect_of case found b h) first
+    ]) first
 
 split_at : (hints : List Hint) (n m : ℕ) (hint : Hint) → n < m → m ≤ length hints → get_or hints n hint ≡ hint → (rest : List Hint) × (take m hints ≡ take n hints ++ hint ∷ rest)
 split_at [] n m hint low within is = absurd (omega arith)
@@ -170,11 +143,6 @@ living_not_dead case box lives = elim (cases_Bool (is_dead case box)) [
       absurd (true≢false (sym dead ∙ ap not each))
 ]
 
-flag_low : (set : List Bool) (k : ℕ) → slice_index_or set k false ≡ true → k < length set
-flag_low [] k e = absurd (true≢false (sym e))
-flag_low (x ∷ xs) zero e = omega arith
-flag_low (x ∷ xs) (suc k) e = omega (arith, flag_low xs k e)
-
 pub living_sets : (case : Case) (ss : List (List Bool)) → sets.sizes ss ≡ counts_of case → ((c : ℕ) → c < length ss → (k : ℕ) × (sets.has ss c k ≡ true)) → is_dead case (sets.has ss) ≡ false
 living_sets case ss sized some = living_not_dead case (sets.has ss) (record {
   each = λ c low.
@@ -196,20 +164,11 @@ some_more ss c k before here d low = elim (cases_eq d c) [
   | inr other ↦ before d (omega arith)
 ]
 
-pub hint_at : (hints : List Hint) (n : ℕ) (d : Hint) → n < length hints → get_or hints n (get_or hints n d) ≡ get_or hints n d
-hint_at [] n d low = absurd (omega arith)
-hint_at (h ∷ hs) zero d low = refl
-hint_at (h ∷ hs) (suc n) d low = hint_at hs n d (omega arith)
+pub element_at : {A : Type 0} (xs : List A) (n : ℕ) (d : A) → n < length xs → slice_index_or xs n (slice_index_or xs n d) ≡ slice_index_or xs n d
+element_at [] n d low = absurd (omega arith)
+element_at (x ∷ xs) zero d low = refl
+element_at (x ∷ xs) (suc n) d low = element_at xs n d (omega arith)
 
 pub box_none : (case : Case) (counts : List ℕ) → counts ≡ counts_of case → sets.full counts ≡ box_of case []
 box_none case counts is = fun_ext λ c. fun_ext λ k.
-    ap (λ (ns : List ℕ). nat_lt k (sets.size_of ns c)) is ∙ (ap (nat_lt k) (size_is case c) ∙ sym (last (nat_lt k (count_of case c))))
-  where
-    last : (b : Bool) → (b && true) ≡ b
-    last true = refl
-    last false = refl
-
-pub cond_at : (conds : List Cond) (n : ℕ) (d : Cond) → n < length conds → slice_index_or conds n (slice_index_or conds n d) ≡ slice_index_or conds n d
-cond_at [] n d low = absurd (omega arith)
-cond_at (h ∷ hs) zero d low = refl
-cond_at (h ∷ hs) (suc n) d low = cond_at hs n d (omega arith)
+    ap (λ (ns : List ℕ). nat_lt k (sets.size_of ns c)) is ∙ (ap (nat_lt k) (size_is case c) ∙ sym (and-true (nat_lt k (count_of case c))))

@@ -1,6 +1,5 @@
 -- The turns of a search keep what it owes.
-use Rattle.std.proofs.Common.{◌≡◌, ℕ, ◌+◌, ◌*◌, ◌-◌, ◌<◌, ◌≤◌, List, [], ◌∷◌, ◌++◌, length, reverse, Bool, true, false, refl, sym, ◌∙◌, ap, subst, arith, slice_index}
-use Rattle.std.specs.Prelude.{Some, None, IsTrue}
+use Rattle.std.proofs.Common.{◌≡◌, ℕ, ◌+◌, ◌<◌, ◌≤◌, List, [], ◌∷◌, ◌++◌, length, reverse, Bool, true, false, refl, sym, ◌∙◌, ap, subst, arith, slice_index, Some, None, IsTrue}
 use Rattle.std.proofs.lemmas.Bool.Decides.{nat_tests}
 use Rattle.rf_terms.specs.declared.kind.Kind.{Kind}
 use Rattle.rf_log.specs.declared.cond.Cond.{Cond}
@@ -13,12 +12,12 @@ use Rattle.rf_log.specs.Hints.{Line, line_at, nogood_at}
 use Rattle.rf_log.specs.Relations.{members}
 use Rattle.rf_log.specs.Walk.{left_side}
 use Rattle.rf_log.specs.Solved.{IsStarted, IsSolved, planned, spent}
-use Rattle.rf_log.proofs.Instances.{counts_length}
+use Rattle.rf_log.proofs.CaseLaws.{counts_length}
 use Rattle.rf_domain.specs.Sets as sets
 use Rattle.rf_trail.specs.declared.entry.Entry.{Entry}
 use Rattle.rf_trail.specs.Trace as trace
 use Rattle.rf_trail.specs.Trace.{Trace, has_of, decided}
-use Rattle.rf_trail.proofs.TraceLemmas.{has_size}
+use Rattle.rf_trail.proofs.TraceLaws.{has_size}
 use Rattle.rf_propagate.specs.Laws.{Extends, IsClosed, IsQuiet, IsOnPath, HasEveryKind}
 use Rattle.rf_search.specs.declared.choice.Choice.{Choice}
 use Rattle.rf_search.specs.declared.level.Level.{Level}
@@ -26,13 +25,13 @@ use Rattle.rf_search.specs.declared.search.Search.{Search}
 use Rattle.rf_search.specs.declared.limits.TheConstants.{MAX_BUDGET, MAX_NUMBER}
 use Rattle.rf_search.specs.Out.{none, and_then}
 use Rattle.rf_search.specs.Choices.{IsChoice, HaveNoPair, AreSome}
-use Rattle.rf_search.specs.State.{Marked, start, decide, path_of, path_at, lefts, Agrees, IsSearching, IsMarked, IsUnderWay, IsWriting, IsStopped, IsFailed, effort}
-use Rattle.rf_search.specs.Turns.{IsWhole, IsAtRest, IsBranching, HasEnded}
-use Rattle.rf_search.proofs.Sizes.{size_is}
+use Rattle.rf_search.specs.State.{Marked, start, decide, path_of, path_at, Agrees, IsSearching, IsMarked, IsUnderWay, IsWriting, IsStopped, IsFailed}
+use Rattle.rf_search.specs.Turns.{IsWhole, IsAtRest, IsBranching}
 use Rattle.rf_search.proofs.WritableLemmas.{index_short}
-use Rattle.rf_search.proofs.Steps.{marked-grown, marked-on, marked-more, lefts-cons, on_path, honest_from, branch_more, branch_step, agrees-push, agrees-learn}
-use Rattle.rf_search.proofs.Endings.{ends_in_plan, ends_spent}
+use Rattle.rf_search.proofs.Steps.{marked-grown, marked-on, marked-more, on_path, branch_more, branch_step, agrees-push, agrees-learn}
+use Rattle.rf_search.proofs.Endings.{plan_from}
 use Rattle.rf_search.proofs.Turning.{last_is}
+use Rattle.rf_propagate.proofs.LineLaws.{size_is}
 
 -- after the engine
 pub settled_on : {case : Case} {lines : List Line} {owed : ℕ} {log : List LogLine} (search : Search) (t : Trace) → IsUnderWay case lines owed search log
@@ -97,8 +96,11 @@ branching {case} {lines} {search} choice u rest choice_ =
       known = omega (arith, choice_.known, ap length u.trail.counts, counts_length case);
       low = subst (λ (n : ℕ). choice.at < n) (size_is case c) low;
       size = low;
-      honest = honest_from case (path_at search) (has_of search.trail.counts es) (left_side Fix c choice.at) choice.at choice.other rest.closed choice_.one (met_alone choice.at)
-          choice_.two (unmet_apart choice.at choice.other choice_.apart);
+      honest = record {
+        living = rest.closed.living;
+        left = (choice.at, rest.closed.within c choice.at choice_.one, met_alone choice.at);
+        right = (choice.other, rest.closed.within c choice.other choice_.two, unmet_apart choice.at choice.other choice_.apart);
+      };
       writable = index_short case c choice.at u.small low;
     }
 
@@ -151,17 +153,18 @@ branch_started {case} {lines} {old} {log} choice u is left =
 pub planned_by : {case : Case} {lines : List Line} {search : Search} {log : List LogLine} (plan : List ℕ) → IsUnderWay case lines 0 search log → IsAtRest case search
     → HaveNoPair (length search.trail.counts) (has_of search.trail.counts search.trail.entries)
     → AreSome (length search.trail.counts) (has_of search.trail.counts search.trail.entries) plan → IsSolved case search.budget log (planned plan)
-planned_by {case} {lines} {search} {log} plan u rest none_ some =
-    ends_in_plan case search.budget log (path_at search) rest.kinds (has_of search.trail.counts search.trail.entries) plan
-    u.searching rest.every rest.quiet (record {
-      full = some.full ∙ long;
-      below = λ c k here. subst (λ (n : ℕ). k < n) (ap (λ (ns : List ℕ). sets.size_of ns c) u.trail.counts ∙ size_is case c) (has_size search.trail.counts search.trail.entries c k here);
-      each = λ c low.
-          let known : c < length search.trail.counts = omega (arith, some.full, low) in
-          let one = rest.quiet.living c (omega (arith, known, counts_length case, long)) in
-          let here : has_of search.trail.counts search.trail.entries c (slice_index plan c) ≡ true = (some.each c known).here one.0 one.1 in
-          (here, λ j at. (none_.each c known).each j (slice_index plan c) at here);
-    })
+planned_by {case} {lines} {search} {log} plan u rest none_ some = record {
+  started = u.searching.started;
+  ends = plan_from case rest.kinds (has_of search.trail.counts search.trail.entries) plan rest.every rest.quiet (record {
+    full = some.full ∙ long;
+    below = λ c k here. subst (λ (n : ℕ). k < n) (ap (λ (ns : List ℕ). sets.size_of ns c) u.trail.counts ∙ size_is case c) (has_size search.trail.counts search.trail.entries c k here);
+    each = λ c low.
+        let known : c < length search.trail.counts = omega (arith, some.full, low) in
+        let one = rest.quiet.living c (omega (arith, known, counts_length case, long)) in
+        let here : has_of search.trail.counts search.trail.entries c (slice_index plan c) ≡ true = (some.each c known).here one.0 one.1 in
+        (here, λ j at. (none_.each c known).each j (slice_index plan c) at here);
+  });
+}
   where
     long : length search.trail.counts ≡ length case.carriers
     long = ap length u.trail.counts ∙ counts_length case
@@ -169,10 +172,19 @@ planned_by {case} {lines} {search} {log} plan u rest none_ some =
 -- the budget is used up where a carrier has two indices
 pub spent_by : {case : Case} {lines : List Line} {search : Search} {log : List LogLine} (choice : Choice) → IsUnderWay case lines 0 search log → IsAtRest case search
     → IsChoice (length search.trail.counts) (has_of search.trail.counts search.trail.entries) choice → search.budget ≤ search.branches → IsSolved case search.budget log spent
-spent_by {case} {lines} {search} {log} choice u rest is all =
-    ends_spent case search.budget log (path_at search) (has_of search.trail.counts search.trail.entries)
-    choice.carrier choice.at choice.other u.searching rest.closed (omega (arith, u.branched, all, u.searching.started.within))
-    (omega (arith, is.known, ap length u.trail.counts, counts_length case)) is.one is.two (λ e. absurd (omega (arith, e, is.apart)))
+spent_by {case} {lines} {search} {log} choice u rest is all = record {
+  started = u.searching.started;
+  ends = record {
+    all = omega (arith, u.branched, all, u.searching.started.within);
+    path = path_at search;
+    at = u.searching.at;
+    living = rest.closed.living;
+    carrier = choice.carrier;
+    known = omega (arith, is.known, ap length u.trail.counts, counts_length case);
+    one = (choice.at, rest.closed.within choice.carrier choice.at is.one);
+    other = (choice.other, rest.closed.within choice.carrier choice.other is.two, λ e. absurd (omega (arith, e, is.apart)));
+  };
+}
 
 pub started_none : (case : Case) (n : ℕ) → IsStarted case n []
 started_none case n = record { valid = refl; honest = tt; within = omega arith; one_each = omega arith }
@@ -217,19 +229,6 @@ module _ {S : Type 0} {taken : S → LogLine → S → Type 0} {case : Case} {li
       let every : HasEveryKind ls = subst (λ (x : List Kind). HasEveryKind x) (sym same) whole.every in
       let asked : IsTrue d = subst (λ (x : Bool). IsTrue x) (sym also) whole.asked in
       at_rest case search t d every asked quiet (closed every asked (path_on at.under_way))
-
-  -- the search has ended
-  pub ended_plan : (plan : List ℕ) → IsWriting taken case lines search first now → IsAtRest case search → HaveNoPair (length search.trail.counts) (has_of search.trail.counts search.trail.entries)
-      → AreSome (length search.trail.counts) (has_of search.trail.counts search.trail.entries) plan → HasEnded taken case search.budget first now (planned plan)
-  ended_plan plan at rest none_ some = record { log = at.log; leads = at.leads; solved = planned_by plan at.under_way rest none_ some }
-
-  pub ended_spent : (choice : Choice) → IsWriting taken case lines search first now → IsAtRest case search
-      → IsChoice (length search.trail.counts) (has_of search.trail.counts search.trail.entries) choice → search.budget ≤ search.branches → HasEnded taken case search.budget first now spent
-  ended_spent choice at rest is all = record { log = at.log; leads = at.leads; solved = spent_by choice at.under_way rest is all }
-
-  pub branching_of : (choice : Choice) → IsWriting taken case lines search first now → IsAtRest case search
-      → IsChoice (length search.trail.counts) (has_of search.trail.counts search.trail.entries) choice → IsBranching case search choice
-  branching_of choice at rest is = branching choice at.under_way rest is
 
   -- the branch line was handed out
   module _ {mid : S} (choice : Choice) (at : IsWriting taken case lines search first mid) (is : IsBranching case search choice) (left : search.branches < search.budget) where

@@ -1,38 +1,6 @@
 -- A check to which the shelf fails asked for the file that failed.
-use Rattle.std.proofs.Common.{
-  ◌≡◌,
-  ◌≤◌,
-  ◌+◌,
-  ◌-◌,
-  ◌^◌,
-  ◌⊎◌,
-  ◌||◌,
-  ◌∙◌,
-  min,
-  ℕ,
-  Bool,
-  true,
-  false,
-  List,
-  [],
-  ◌∷◌,
-  ◌++◌,
-  Option,
-  Some,
-  None,
-  Result,
-  Ok,
-  Err,
-  count_by,
-  refl,
-  sym,
-  ap,
-  ap₂,
-  inl,
-  inr,
-  arith,
-}
-use Rattle.std.specs.Prelude.{if◌then◌else◌}
+use Rattle.std.proofs.Common.{◌≡◌, ◌≤◌, ◌+◌, ◌-◌, ◌^◌, ◌⊎◌, ◌∙◌, min, ℕ, Bool, true, false, List, [], ◌∷◌, ◌++◌, Option, Some, None, Result, Ok, Err, count_by, refl, sym, ap, ap₂, inl, inr}
+use Rattle.std.proofs.Common.{arith, if◌then◌else◌}
 use Rattle.std.specs.List.{list_any}
 use Rattle.std.specs.Str.{bytes_eq}
 use Rattle.std.proofs.lemmas.List.Folds.{list_any-append}
@@ -69,6 +37,7 @@ use Rattle.rf_session.specs.Run.{is_passed}
 use Rattle.rf_session.specs.ShowFile.{command_read, made, made_by, said_read, ReadsLine, ReadsShow}
 use Rattle.rf_session.specs.Shows.{file_of, profiles_edit, said_file, scan_edit}
 use Rattle.rf_session.proofs.FetchLaws.{count_by-append}
+use mathlib.Core.Bool.{or-true}
 
 made_fetched : (r : Result ShowData Refusal) → made r ≡ Err Shelf → ⊥
 made_fetched (Ok s) is = cc
@@ -159,14 +128,10 @@ finds_fails judge name log first last (got, lines, is, finds) = rw is (finds_fro
 self_eq : (name : List ℕ) → bytes_eq name name ≡ true
 self_eq name = (bytes_eq-Decides name name).1 refl
 
-either_true : (b : Bool) → (b || true) ≡ true
-either_true true = refl
-either_true false = refl
-
 asks_last : (fetches : List Fetched) (fails : FailsLast fetches) → list_any (asks_for fails.name) fetches ≡ true
 asks_last fetches fails =
     let last : list_any (asks_for fails.name) (of_file fails.name fault ∷ []) ≡ true = rw (self_eq fails.name) refl in
-    rw (fails.whole, list_any-append (asks_for fails.name) fails.earlier (of_file fails.name fault ∷ []), last) (either_true (list_any (asks_for fails.name) fails.earlier))
+    rw (fails.whole, list_any-append (asks_for fails.name) fails.earlier (of_file fails.name fault ∷ []), last) (or-true (list_any (asks_for fails.name) fails.earlier))
 
 fails_last : (fetches : List Fetched) (fails : FailsLast fetches) → 1 ≤ count_by (fails_at fails.name) fetches
 fails_last fetches fails =
@@ -196,7 +161,7 @@ failed_at judge name log before after it unwritten (inr fails) = record {
   run = it;
   unwritten = unwritten;
   name = fails.name;
-  asks = rw (list_any-append (asks_for fails.name) it.first it.last, asks_last it.last fails) (either_true (list_any (asks_for fails.name) it.first));
+  asks = rw (list_any-append (asks_for fails.name) it.first it.last, asks_last it.last fails) (or-true (list_any (asks_for fails.name) it.first));
   rose = rose_last (before.faults fails.name) (it.mid.faults fails.name) (after.faults fails.name) _ _ (fails_last it.last fails)
       (it.brought.bound fails.name) (it.brought_log.bound fails.name);
 }

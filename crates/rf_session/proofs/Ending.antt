@@ -1,6 +1,5 @@
 -- How the program ends, by what was asked.
-use Rattle.std.proofs.Common.{◌≡◌, ℕ, Bool, true, false, List, Some, None, Err, refl, subst, arith}
-use Rattle.std.specs.Prelude.{if◌then◌else◌}
+use Rattle.std.proofs.Common.{◌≡◌, ℕ, Bool, true, false, List, Some, None, Err, refl, subst, arith, if◌then◌else◌}
 use Rattle.std.specs.declared.option.Option.{Option}
 use Rattle.rf_base.specs.Cause.{Rose}
 use Rattle.rf_base.specs.Told.{WhereTold}
@@ -15,8 +14,8 @@ use Rattle.rf_session.specs.Process.{DemoEnds, Ends, EndsWell, IsDone, IsUndistu
 use Rattle.rf_session.specs.Top.{Headline, Serves}
 use Rattle.rf_session.specs.Words.{Usage}
 use Rattle.rf_session.proofs.CheckEnds.{Unjudged-none}
-use Rattle.rf_session.proofs.Runs.{Appends-none}
 use Rattle.rf_session.proofs.Starting.{fits, Serves-headline, Serves-through, Serves-long, Serves-read, Serves-write, Serves-memory, Serves-none}
+use Rattle.rf_base.proofs.ByteLaws.{Appends-nil}
 
 -- a session
 pub Ends-session : (asked : Option Asked) (status : Status) (before after : World) → asked ≡ Some Session →
@@ -102,7 +101,7 @@ Ends-usage asked status before after is usage write = rw is (by_status status us
 
 -- no memory was found for the words
 pub Ends-unread : (asked : Option Asked) (world : World) → Ends asked Memory world world
-Ends-unread None world = record { wrote = record { count = 0; within = omega arith; grew = Appends-none world.outside.written } }
+Ends-unread None world = record { wrote = record { count = 0; within = omega arith; grew = Appends-nil world.outside.written } }
 Ends-unread (Some Session) world =
     record { replies = Serves-memory world.outside world.outside world.left world.left Memory (Serves-none world.outside world.left) refl }
 Ends-unread (Some (Check show log)) world = Unjudged-none show log world.outside

@@ -1,10 +1,9 @@
 -- What the shelf brought, one time after another.
-use Rattle.std.proofs.Common.{◌≡◌, ◌≢◌, ◌≤◌, ◌+◌, ◌-◌, ◌^◌, min, ◌||◌, ℕ, Bool, true, false, List, [], ◌∷◌, ◌++◌, count_by, append_assoc, Some, None, refl, sym, ◌∙◌, subst, arith, cond}
+use Rattle.std.proofs.Common.{◌≡◌, ◌≢◌, ◌≤◌, ◌+◌, ◌-◌, ◌^◌, min, ℕ, Bool, false, List, [], ◌∷◌, ◌++◌, count_by, append_assoc, Some, None, refl, sym, ◌∙◌, subst, arith, cond, append-nil}
 use Rattle.std.specs.List.{list_any}
 use Rattle.std.specs.Str.{bytes_eq}
-use Rattle.std.proofs.lemmas.Bool.{false≢true}
+use Rattle.std.proofs.lemmas.Bool.{false≢true, or_parts}
 use Rattle.std.proofs.lemmas.Slice.Eq.{bytes_eq-Decides}
-use Rattle.std.proofs.lemmas.List.{append-nil}
 use Rattle.std.proofs.lemmas.List.Concat.{flat_map-append}
 use Rattle.std.proofs.lemmas.List.Elements.{All-nil, All-cons, All-append}
 use Rattle.std.proofs.lemmas.List.Folds.{list_any-append}
@@ -54,13 +53,9 @@ BroughtWithin-none limit o = record { told = All-nil (MayBringWithin limit o.fil
 pub Brought-none : (o : Outside) → Brought o o []
 Brought-none o = BroughtWithin-none file_limit o
 
-pub either_false : (a b : Bool) → (a || b) ≡ false → (a ≡ false) × (b ≡ false)
-either_false true b h = absurd cc
-either_false false b h = (refl, h)
-
 pub KeptCounts-then : (before mid after : Outside) (fs gs : List Fetched) → KeptCounts before mid fs → KeptCounts mid after gs → KeptCounts before after (fs ++ gs)
 KeptCounts-then before mid after fs gs first second = λ name none.
-    let both = either_false (list_any (asks_for name) fs) (list_any (asks_for name) gs) (sym (list_any-append (asks_for name) fs gs) ∙ none) in
+    let both = or_parts (list_any (asks_for name) fs) (list_any (asks_for name) gs) (sym (list_any-append (asks_for name) fs gs) ∙ none) in
     second name both.1 ∙ first name both.0
 
 -- a line that names no file
@@ -79,7 +74,7 @@ other_name file name other same = false≢true (sym other ∙ (bytes_eq-Decides 
 -- the count of a file for which the one fetch asked not stayed as it was
 pub KeptCounts-file : (before after : Outside) (name : List ℕ) (got : Got) → ((other : List ℕ) → other ≢ name → after.faults other ≡ before.faults other) →
     KeptCounts before after (of_file name got ∷ [])
-KeptCounts-file before after name got others = λ other none. others other (other_name name other (either_false (bytes_eq name other) false none).0)
+KeptCounts-file before after name got others = λ other none. others other (other_name name other (or_parts (bytes_eq name other) false none).0)
 
 -- a line that names no file was obeyed
 pub Obeyed-absent : (step : Fetched → Type 0) (o : Outside) → step absent → Obeyed step o o
@@ -98,13 +93,4 @@ Obeyed-file step before after name got took brought others = record {
   took = took;
   brought = brought;
   kept = KeptCounts-file before after name got others;
-}
-
--- less holds of a line that was obeyed
-pub Obeyed-weaker : (P Q : Fetched → Type 0) (before after : Outside) → ((fetched : Fetched) → P fetched → Q fetched) → Obeyed P before after → Obeyed Q before after
-Obeyed-weaker P Q before after weaker obeyed = record {
-  fetched = obeyed.fetched;
-  took = weaker obeyed.fetched obeyed.took;
-  brought = obeyed.brought;
-  kept = obeyed.kept;
 }

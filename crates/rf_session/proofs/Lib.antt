@@ -1,18 +1,18 @@
-pub mod CheckEnds
-pub mod CheckFailures
-pub mod Checking
-pub mod CleanLaws
-pub mod Demonstrating
-pub mod Ending
-pub mod FetchLaws
-pub mod Follows
-pub mod Obeying
-pub mod Runs
-pub mod Searching
-pub mod Serving
-pub mod ShowLineLaws
-pub mod ShowReading
-pub mod SparesLaws
-pub mod Starting
-pub mod TextualLaws
-pub mod UnfetchedLaws
+mod CheckEnds
+mod CheckFailures
+mod Checking
+mod CleanLaws
+mod Demonstrating
+mod Ending
+mod FetchLaws
+mod Follows
+mod Obeying
+mod Runs
+mod Searching
+mod Serving
+mod ShowLineLaws
+mod ShowReading
+mod SparesLaws
+mod Starting
+mod TextualLaws
+mod UnfetchedLaws

@@ -1,19 +1,17 @@
 -- Runs of a machine, one after another.
-use Rattle.std.proofs.Common.{◌≡◌, ◌||◌, ℕ, Bool, true, false, List, [], ◌∷◌, ◌++◌, refl, sym, ◌∙◌, subst, map, cond, Some, None, arith}
-use Rattle.std.specs.Prelude.{not, filter}
+use Rattle.std.proofs.Common.{◌≡◌, ◌||◌, ℕ, Bool, true, false, List, [], ◌∷◌, ◌++◌, refl, sym, ◌∙◌, subst, map, cond, arith, not, filter, append-nil}
 use Rattle.std.proofs.lemmas.Bool.Decides.{nat_tests}
-use Rattle.std.proofs.lemmas.List.{append-nil, map-append}
+use Rattle.std.proofs.lemmas.List.{map-append}
 use Rattle.std.proofs.lemmas.List.Elements.{filter-append}
 use Rattle.std.proofs.lemmas.List.Folds.{concat-append, list_any-append}
-use Rattle.std.specs.Io.KnownBytes.{Appends}
-use Rattle.std.specs.declared.option.Option.{Option}
 use Rattle.rf_base.specs.Script.{Line, short}
-use Rattle.rf_base.proofs.Bytes.{Appends-then}
+use Rattle.rf_base.proofs.ByteLaws.{Appends-then, Appends-nil}
 use Rattle.rf_session.specs.Fetches.{Fetched, Outside}
 use Rattle.rf_session.specs.declared.reply.Reply.{Reply}
 use Rattle.rf_session.specs.Reply.{text_of, is_refusal, texts}
 use Rattle.rf_session.specs.Run.{Run, is_quit, is_passed, up_to_quit, answered, quits, Answered, Replied}
 use Rattle.rf_session.proofs.FetchLaws.{Brought-none, Brought-then, KeptCounts-then}
+use mathlib.Core.Bool.{or-false}
 
 -- `quit` is neither empty nor a comment
 pub quit_not_passed : (bytes : List ℕ) → is_passed (short bytes) ≡ true → is_quit (short bytes) ≡ false
@@ -46,14 +44,6 @@ quits-more line lines other = rw other refl
 
 pub quits-quit : (line : Line) (lines : List Line) → is_quit line ≡ true → quits (line ∷ lines) ≡ true
 quits-quit line lines quit = rw quit refl
-
-pub or_false : (b : Bool) → (b || false) ≡ b
-or_false true = refl
-or_false false = refl
-
-pub Appends-none : (contents : Option (List ℕ)) → Appends contents contents []
-Appends-none None = tt
-Appends-none (Some bytes) = sym (append-nil bytes)
 
 pub texts-append : (rs ts : List Reply) → texts (rs ++ ts) ≡ texts rs ++ texts ts
 texts-append rs ts = rw (map-append text_of rs ts) (concat-append (map text_of rs) (map text_of ts))
@@ -93,7 +83,7 @@ Answered-one step old new before after line refusal other replied =
       brought = replied.brought;
       kept = replied.kept;
       wrote = rw append-nil replied.wrote;
-      refusals = replied.refuses ∙ sym (or_false (is_refusal replied.reply));
+      refusals = replied.refuses ∙ sym (or-false (is_refusal replied.reply));
     }
 
 -- nothing was answered
@@ -104,7 +94,7 @@ Answered-none step state o = record {
   run = refl;
   brought = Brought-none o;
   kept = λ name none. refl;
-  wrote = Appends-none o.written;
+  wrote = Appends-nil o.written;
   refusals = refl;
 }
 
@@ -119,4 +109,4 @@ pub Answered-still : {M : Type 0} (step : M → Line → Fetched → Reply → M
     ys ≡ xs ++ [] → Answered step old new before after ys refusal
 Answered-still step old mid new before between after xs ys refusal first second same =
     let both = Answered-then step old mid new before between after xs [] refusal false first second in
-    rw same (subst (λ b. Answered step old new before after (xs ++ []) b) (or_false refusal) both)
+    rw same (subst (λ b. Answered step old new before after (xs ++ []) b) (or-false refusal) both)

@@ -1,20 +1,12 @@
 -- What a search wrote: its reply, or a part of it.
-use Rattle.std.proofs.Common.{◌≡◌, ◌+◌, ◌++◌, ℕ, suc, Bool, false, List, [], ◌∷◌, Some, None, Ok, Err, refl, ap, sym, subst, ◌∙◌, inl, inr, arith, length, take}
-use Rattle.std.specs.Prelude.{Result}
+use Rattle.std.proofs.Common.{◌≡◌, ◌+◌, ◌++◌, ℕ, Bool, false, List, [], ◌∷◌, Ok, Err, refl, ap, sym, subst, ◌∙◌, inl, inr, length, take, Result}
 use Rattle.std.specs.Result.{OnOk, is_err}
 use Rattle.std.specs.Io.KnownBytes.{Appends}
 use Rattle.std.specs.declared.option.Option.{Option}
-use Rattle.rf_base.proofs.Bytes.{Appends-then}
-use Rattle.rf_editor.specs.History.{History, accepted, edited_history}
-use Rattle.rf_log.specs.Solved.{Ending, IsSolved, planned, refuted, spent}
-use Rattle.rf_log.specs.declared.line.LogLine.{LogLine}
-use Rattle.rf_show.specs.After.{after_unless, edited, refusal}
-use Rattle.rf_show.specs.Case.{case_of}
+use Rattle.rf_base.proofs.ByteLaws.{Appends-then}
+use Rattle.rf_editor.specs.History.{History}
+use Rattle.rf_log.specs.Solved.{Ending}
 use Rattle.rf_show.specs.Show.{ShowData}
-use Rattle.rf_show.specs.declared.edit.Edit.{Edit}
-use Rattle.rf_show.specs.declared.edit.Edit.TheVariants.{Place}
-use Rattle.rf_show.specs.declared.refusal.Refusal.{Refusal}
-use Rattle.rf_solving.specs.Placing.{IsAdmitted, PlanIsAdmitted}
 use Rattle.rf_solving.specs.Solving.{IsBegun, IsEnded, plan_ats}
 use Rattle.rf_session.specs.declared.answer.Answer.{Answer}
 use Rattle.rf_session.specs.declared.answer.Answer.TheVariants.{Search}
@@ -23,6 +15,7 @@ use Rattle.rf_session.specs.declared.machine.Stop.TheVariants.{Write, Memory}
 use Rattle.rf_session.specs.declared.reply.Reply.TheVariants.{Text}
 use Rattle.rf_session.specs.Run.{Writes, WritesPart}
 use Rattle.rf_session.specs.Shows.{AnswerPart, LeavesAfter, LogPart, Searches}
+use Rattle.rf_base.proofs.ListLaws.{take_past}
 
 -- a search has ended
 pub searched_reply : (old new : History) (n : ℕ) (places : Bool) (ending : Ending) (log verdict : List ℕ) (a b c : Option (List ℕ)) →
@@ -57,12 +50,6 @@ whole_cut old places stop n log a b begun wrote =
     all_of : (xs : List ℕ) → take (length xs) xs ≡ xs
     all_of [] = refl
     all_of (x ∷ xs) = ap (λ ys. x ∷ ys) (all_of xs)
-
-take_past : (xs ys : List ℕ) (k : ℕ) → xs ++ take k ys ≡ take (length xs + k) (xs ++ ys)
-take_past [] ys k = let none : k ≡ 0 + k = omega arith in ap (λ n. take n ys) none
-take_past (x ∷ xs) ys k =
-    let one : suc (length xs + k) ≡ suc (length xs) + k = omega arith in
-    ap (λ zs. x ∷ zs) (take_past xs ys k) ∙ ap (λ n. take n (x ∷ (xs ++ ys))) one
 
 -- the log was written, and a part of the verdict
 pub verdict_cut : (old new : History) (n k : ℕ) (places : Bool) (ending : Ending) (log verdict : List ℕ) (a b c : Option (List ℕ)) →

@@ -11,10 +11,10 @@ use Rattle.rf_base.specs.Reader.{input_of}
 use Rattle.rf_base.specs.Script.{Line, long, ended_lines}
 use Rattle.rf_base.specs.Shelf.{Ask}
 use Rattle.rf_base.specs.Told.{WhereTold}
-use Rattle.rf_base.proofs.Bytes.{Appends-then}
-use Rattle.rf_base.proofs.InputLaws.{GoesTo-takes, IsAtNone-end, IsBeyond-too_long}
+use Rattle.rf_base.proofs.ByteLaws.{Appends-then}
+use Rattle.rf_base.proofs.InputLaws.{GoesTo-takes, IsBeyond-too_long}
 use Rattle.rf_base.proofs.ScriptLaws.{ended_lines-none}
-use Rattle.rf_base.proofs.Told.{WhereTold-same, WhereTold-then, WhereTold-weaker}
+use Rattle.rf_base.proofs.ToldLaws.{WhereTold-same, WhereTold-then, WhereTold-weaker}
 use Rattle.rf_session.specs.declared.machine.Stop.{Stop}
 use Rattle.rf_session.specs.declared.session.Turn.{Turn}
 use Rattle.rf_session.specs.declared.session.Turn.TheVariants.{Went, Quit, Stopped, End, TooLong, ReadFault}

@@ -1,24 +1,19 @@
 -- What one line of a show file comes to.
-use Rattle.std.proofs.Common.{◌≡◌, ◌≢◌, ◌∙◌, ℕ, false, true, List, [], ◌∷◌, Some, None, Result, Ok, Err, refl, ap, sym}
+use Rattle.std.proofs.Common.{◌≡◌, ◌≢◌, ℕ, List, [], ◌∷◌, Some, Result, Ok, Err, ap, sym}
 use Rattle.std.specs.Result.{IfOk, IfErr}
-use Rattle.rf_base.specs.Script.{short}
 use Rattle.rf_show.specs.declared.edit.Edit.{Edit}
 use Rattle.rf_show.specs.Show.{ShowData}
-use Rattle.rf_text.specs.Commands.{command_of}
 use Rattle.rf_text.specs.declared.command.Command.{Command}
-use Rattle.rf_text.specs.declared.command.UnknownLine.{UnknownLine}
 use Rattle.rf_session.specs.declared.file_fault.FileFault.{FileFault}
 use Rattle.rf_session.specs.declared.file_fault.FileFault.TheVariants as file
 use Rattle.rf_session.specs.declared.file_fault.FileFault.TheVariants.{Memory as NoMemory}
 use Rattle.rf_session.specs.declared.reply.Code.TheVariants as code
 use Rattle.rf_session.specs.declared.show_file.LineFault.{LineFault}
 use Rattle.rf_session.specs.declared.show_file.LineFault.TheVariants.{Refused, Shelf, Memory}
-use Rattle.rf_session.specs.Fetches.{Fetched, fault, fetch_of, of_file, Got, Outside, Brought, Obeyed}
-use Rattle.rf_session.specs.Run.{is_passed}
-use Rattle.rf_session.specs.ShowFile.{command_read, line_file, line_read, made_by, IfLine, ReadsCommand, ReadsLine}
+use Rattle.rf_session.specs.Fetches.{fetch_of, of_file, Got, Outside, Brought, Obeyed}
+use Rattle.rf_session.specs.ShowFile.{command_read, made_by, IfLine, ReadsCommand}
 use Rattle.rf_session.specs.Shows.{file_of}
-use Rattle.rf_session.specs.Unfetched.{is_file}
-use Rattle.rf_session.proofs.FetchLaws.{Obeyed-absent, Obeyed-file, Obeyed-weaker}
+use Rattle.rf_session.proofs.FetchLaws.{Obeyed-file}
 
 -- less holds too
 pub IfLine-weaker : {X : Type 0} (r : Result X LineFault) (new : ShowData) (P Q : Result ShowData LineFault → Type 0) →

@@ -20,7 +20,8 @@ use Rattle.rf_session.specs.ShowFile.{Makes, ReadsLine, ShowRead, StopsAt, are_n
 use Rattle.rf_session.specs.ShowLines.{Reads, Takes}
 use Rattle.rf_session.specs.Top.{script}
 use Rattle.rf_session.specs.Unfetched.{is_file}
-use Rattle.rf_session.proofs.FetchLaws.{Brought-none, Brought-then, either_false, KeptCounts-then}
+use Rattle.rf_session.proofs.FetchLaws.{Brought-none, Brought-then, KeptCounts-then}
+use Rattle.std.proofs.lemmas.Bool.{or_parts}
 
 -- one line more
 Makes-then : (old mid new : ShowData) (lines : List Line) (fetches : List Fetched) (line : Line) (fetched : Fetched) →
@@ -35,7 +36,7 @@ pub line_unnamed : (name : List ℕ) (line : Line) (old new : Input) → TakesLi
     is_file name (line_file line) ≡ false
 line_unnamed name line old new takes none =
     let goes = GoesTo-takes line old new takes in
-    (either_false (is_file name (line_file line)) (are_naming name (lines_of new)) (sym (ap (are_naming name) goes.lines) ∙ none)).0
+    (or_parts (is_file name (line_file line)) (are_naming name (lines_of new)) (sym (ap (are_naming name) goes.lines) ∙ none)).0
 
 -- How far a show file was read: these lines of it made the show.
 pub record Reading (bytes : List ℕ) (before now : Outside) (show : ShowData) (reader : LineReader) (left : Option (List ℕ)) (count : ℕ) : Type 0 where
@@ -83,7 +84,7 @@ took_is r named left left' old new now after reader reader' is told =
 rest_unnamed : (name : List ℕ) (lines done rest : List Line) → lines ≡ done ++ rest → are_naming name lines ≡ false → are_naming name rest ≡ false
 rest_unnamed name lines done rest all none =
     let split = list_any-append (λ line. is_file name (line_file line)) done rest in
-    (either_false (are_naming name done) (are_naming name rest) (sym split ∙ (sym (ap (are_naming name) all) ∙ none))).1
+    (or_parts (are_naming name done) (are_naming name rest) (sym split ∙ (sym (ap (are_naming name) all) ∙ none))).1
 
 module _ (bytes : List ℕ) (before now after : Outside) (show : ShowData) (reader reader' : LineReader) (left left' : Option (List ℕ)) (count : ℕ)
     (so_far : Reading bytes before now show reader left count) where

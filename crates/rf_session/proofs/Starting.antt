@@ -1,6 +1,5 @@
 -- How a whole session begins, and what it comes to.
-use Rattle.std.proofs.Common.{◌≡◌, ◌≤◌, ℕ, Bool, true, false, List, [], ◌∷◌, length, refl, subst, inl, arith, Some, None, IsSomeAnd}
-use Rattle.std.specs.Prelude.{if◌then◌else◌}
+use Rattle.std.proofs.Common.{◌≡◌, ◌≤◌, ℕ, Bool, true, false, List, [], ◌∷◌, length, refl, subst, inl, arith, Some, None, IsSomeAnd, if◌then◌else◌}
 use Rattle.std.proofs.lemmas.Bool.Decides.{nat_tests}
 use Rattle.std.specs.declared.option.Option.{Option}
 use Rattle.rf_base.specs.declared.line_reader.LineReader.{LineReader}
@@ -10,7 +9,7 @@ use Rattle.rf_base.specs.Input.{Input, lines_of, is_long}
 use Rattle.rf_base.specs.Reader.{input_of, pending_of}
 use Rattle.rf_base.specs.Script.{Line}
 use Rattle.rf_base.specs.Told.{WhereTold}
-use Rattle.rf_base.proofs.Told.{WhereTold-same, WhereTold-weaker}
+use Rattle.rf_base.proofs.ToldLaws.{WhereTold-same, WhereTold-weaker}
 use Rattle.rf_session.specs.declared.machine.Stop.{Stop}
 use Rattle.rf_session.specs.declared.machine.Stop.TheVariants.{Write as ByWrite, Memory as ByMemory}
 use Rattle.rf_session.specs.Fetches.{Fetched, absent, Outside}
@@ -21,8 +20,8 @@ use Rattle.rf_session.specs.Shows.{Steps, Parts}
 use Rattle.rf_editor.specs.History.{History, first_history}
 use Rattle.rf_session.proofs.FetchLaws.{AppendsAsks-none, Brought-absent}
 use Rattle.rf_session.specs.Unfetched.{IsBounded}
-use Rattle.rf_session.proofs.Runs.{Appends-none}
 use Rattle.rf_session.proofs.UnfetchedLaws.{IsBounded-broken, IsBounded-run}
+use Rattle.rf_base.proofs.ByteLaws.{Appends-nil}
 
 -- nothing was written
 breaks_none : (cuts : Line → Fetched → List ℕ → Type 0) (lines : List Line) → Breaks cuts lines absent []
@@ -49,7 +48,7 @@ Serves-none o left =
         broke = breaks_none (Cut Parts first_history ByMemory) (answered (lines_of (script bytes)));
         told = none.told;
         bound = none.bound;
-        wrote = Appends-none o.written;
+        wrote = Appends-nil o.written;
       };
       drained = λ read. cc;
     })

@@ -1,6 +1,5 @@
 -- Edits, undo and redo keep what each show of a history keeps.
-use Rattle.std.proofs.Common.{◌≡◌, List, [], ◌∷◌, true, Some, Result, Ok, Err, refl}
-use Rattle.std.specs.Prelude.{IsTrue}
+use Rattle.std.proofs.Common.{◌≡◌, List, [], ◌∷◌, true, Some, Result, Ok, Err, refl, IsTrue}
 use Rattle.std.specs.List.{list_all}
 use Rattle.std.proofs.lemmas.Bool.{and_parts}
 use Rattle.rf_editor.specs.History.{History, accepted, edited_history, first_history, redone_to, undone_to}

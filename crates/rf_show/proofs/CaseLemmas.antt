@@ -5,7 +5,7 @@ use Rattle.std.specs.List.{list_all, range_with_len}
 use Rattle.std.specs.Option.{option_map_or, option_and_then}
 use Rattle.std.proofs.Math.ListN.{get_or-eq_default}
 use Rattle.std.proofs.Math.Path.{fun_ext}
-use Rattle.std.proofs.lemmas.Bool.{cases_lt}
+use Rattle.std.proofs.lemmas.Bool.{cases_lt, and_from, and_parts}
 use Rattle.std.proofs.lemmas.Bool.Decides.{nat_tests}
 use Rattle.std.proofs.lemmas.Option.{slice_get_past}
 use Rattle.std.proofs.lemmas.List.FromFn.{get_or-map-range_with_len, length-map-range_with_len}
@@ -16,7 +16,7 @@ use Rattle.rf_terms.specs.Kinds as table
 use Rattle.rf_terms.specs.Kinds.{place_of, roles_of}
 use Rattle.rf_terms.proofs.KindLaws.{two_roles}
 use Rattle.rf_log.specs.Case as case
-use Rattle.rf_log.specs.Case.{Case, are_distinct, are_together, carrier_of, has_just, is_among, no_carrier}
+use Rattle.rf_log.specs.Case.{are_distinct, are_together, carrier_of, is_among, no_carrier}
 use Rattle.rf_log.specs.Laws.{IsOfSets, SetsAreTested}
 use Rattle.rf_profiles.specs.Channels.{channels}
 use Rattle.rf_profiles.specs.Profile as profile
@@ -28,9 +28,9 @@ use Rattle.rf_show.specs.declared.carrier.Carrier.{Carrier}
 use Rattle.rf_show.specs.Show.{ShowData}
 use Rattle.rf_show.specs.Query as query
 use Rattle.rf_show.specs.Query.{all_meet, are_joined, channel_of, is_together, meet_at, profile_of}
-use Rattle.rf_show.proofs.ListLemmas.{and_true, both_true}
-use Rattle.rf_show.proofs.TogetherLemmas.{tested-below}
 use Rattle.rf_show.specs.Case.{Agree, asked, case_carrier, case_of, channels_of}
+use Rattle.rf_base.proofs.ListLaws.{tested_below}
+use Rattle.rf_base.proofs.BoolLaws.{same_test}
 
 -- ---- its carriers
 
@@ -92,11 +92,6 @@ margin-case show kind roles n low = asked-case show kind (slice_index roles (rol
 
 -- ---- which of them are together
 
-same_if : (a b : Bool) → (a ≡ true → b ≡ true) → (b ≡ true → a ≡ true) → a ≡ b
-same_if true b f g = sym (f refl)
-same_if false true f g = g refl
-same_if false false f g = refl
-
 passes_cond : (b : Bool) (p : ℕ → Bool) (x c : ℕ) (rest : Bool) → (x == c) ≡ b → (b || rest) ≡ true → p x ≡ true → (rest ≡ true → p c ≡ true) → p c ≡ true
 passes_cond true p x c rest e h now next = let same : x ≡ c = grind (arith, nat_tests, e) in sym (ap p same) ∙ now
 passes_cond false p x c rest e h now next = next h
@@ -104,17 +99,17 @@ passes_cond false p x c rest e h now next = next h
 passes-among : (p : ℕ → Bool) (t : List ℕ) (c : ℕ) → is_among t c ≡ true → list_all p t ≡ true → p c ≡ true
 passes-among p [] c h all = cc
 passes-among p (x ∷ xs) c h all =
-    let parts = both_true (p x) _ all in
+    let parts = and_parts (p x) _ all in
     passes_cond (x == c) p x c (is_among xs c) refl h parts.0 (λ i. passes-among p xs c i parts.1)
 
 all-among : (p : ℕ → Bool) (s t : List ℕ) → list_all (is_among t) s ≡ true → list_all p t ≡ true → list_all p s ≡ true
 all-among p [] t h all = refl
 all-among p (c ∷ cs) t h all =
-    let parts = both_true (is_among t c) _ h in
-    and_true _ _ (passes-among p t c parts.0 all) (all-among p cs t parts.1 all)
+    let parts = and_parts (is_among t c) _ h in
+    and_from _ _ (passes-among p t c parts.0 all) (all-among p cs t parts.1 all)
 
 all-same : (p : ℕ → Bool) (s t : List ℕ) → list_all (is_among t) s ≡ true → list_all (is_among s) t ≡ true → list_all p s ≡ list_all p t
-all-same p s t to from = same_if _ _ (all-among p t s from) (all-among p s t to)
+all-same p s t to from = same_test _ _ (all-among p t s from) (all-among p s t to)
 
 meet-same : (size : ℕ) (zones : ZonesData) (carriers : List Carrier) (s t : List ℕ) → list_all (is_among t) s ≡ true → list_all (is_among s) t ≡ true
     → all_meet size zones carriers s ≡ all_meet size zones carriers t
@@ -142,7 +137,7 @@ together-case : SetsAreTested → (show : ShowData) (set : List ℕ) → All (λ
     → are_together (case_of show) set ≡ is_together show set
 unfolding case_of
 together-case tested show set low distinct some few =
-    tested (is_together show) (length show.carriers) set (together-same show) (tested-below (length show.carriers) set low) distinct some few
+    tested (is_together show) (length show.carriers) set (together-same show) (tested_below (length show.carriers) set low) distinct some few
 
 pub agree : SetsAreTested → (show : ShowData) → Agree show (case_of show)
 agree tested show = record {

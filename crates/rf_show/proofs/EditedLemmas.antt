@@ -4,7 +4,7 @@ use Rattle.std.specs.List.{list_all, list_any}
 use Rattle.std.proofs.lemmas.List.{map-append}
 use Rattle.std.proofs.lemmas.List.Edits.{length-remove}
 use Rattle.std.proofs.lemmas.List.Folds.{list_all-append, list_any-append}
-use Rattle.std.proofs.lemmas.Bool.{le-leb, leb-true}
+use Rattle.std.proofs.lemmas.Bool.{le-leb, leb-true, or_parts, or_left, and_from, and_parts, false_from_ne_true}
 use Rattle.rf_base.specs.Name.{same_name}
 use Rattle.rf_exclusions.specs.declared.ban.Ban.{Ban}
 use Rattle.rf_exclusions.specs.declared.scan_set.ScanSet.{ScanSet}
@@ -18,16 +18,17 @@ use Rattle.rf_show.specs.Reasons.{moves_locked}
 use Rattle.rf_profiles.specs.Profile.{differ, profile_names}
 use Rattle.rf_show.specs.Show.{ShowData, are_carriers, are_bans, are_scans, is_ban, is_carrier, is_profile, is_scan, has_profile, has_zone, has_zone_or_all, is_used, carrier_names, is_narrow}
 use Rattle.rf_show.specs.Show.{is_steady, carrier_named, belongs}
-use Rattle.rf_show.proofs.FirstLemmas.{map-change_first, length-change_first, list_all-change_first, list_all-change_found, or_false, length-remove_first, list_all-remove_first, list_any-remove_first}
-use Rattle.rf_show.proofs.FirstLemmas.{find_any, list_any-map, list_any-same, position_any}
-use Rattle.rf_show.proofs.KeptLemmas.{Kept, profiles_kept, are_kept_profiles, carriers_kept, are_kept_carriers}
-use Rattle.rf_show.proofs.ListLemmas.{and_true, both_true, list_all-remove, list_all-wider, or_left}
+use Rattle.rf_show.proofs.FirstLaws.{map-change_first, length-change_first, list_all-change_first, list_all-change_found, length-remove_first, list_all-remove_first, list_any-remove_first}
+use Rattle.rf_show.proofs.FirstLaws.{find_any}
+use Rattle.rf_show.proofs.KeptLaws.{Kept, profiles_kept, are_kept_profiles, carriers_kept, are_kept_carriers}
+use Rattle.rf_show.proofs.ListLemmas.{list_all-remove, list_all-wider}
 use Rattle.rf_show.proofs.NameLemmas.{differ-remove_first, differ-append, same_both}
-use Rattle.rf_show.proofs.PlaceLemmas.{length-placed, map-placed, list_all-placed, placed_steady}
+use Rattle.rf_show.proofs.PlaceLaws.{length-placed, map-placed, list_all-placed, placed_steady}
+use Rattle.rf_base.proofs.ListLaws.{any_map, any_same, position_any}
 
 -- whether a profile is there is seen in the names alone
 pub has_profile_names : (ps : List Profile) (name : List ℕ) → has_profile ps name ≡ list_any (λ n. same_name n name) (profile_names ps)
-has_profile_names ps name = find_any (is_profile name) ps ∙ sym (list_any-map (λ n. same_name n name) (λ p. p.name) ps)
+has_profile_names ps name = find_any (is_profile name) ps ∙ sym (any_map (λ n. same_name n name) (λ p. p.name) ps)
 
 -- ---- carriers
 
@@ -63,9 +64,9 @@ add_carrier_kept ps z cs c h room new there steady =
       few = omega (arith, room, length-append cs (c ∷ []));
       apart = ap differ (map-append (λ c. c.name) cs (c ∷ []))
           ∙ differ-append (carrier_names cs) (c.name ∷ []) k.apart refl
-          (ap (λ b. b || false) (list_any-map (λ n. same_name n c.name) (λ c. c.name) cs ∙ new));
-      placed = list_all-append (belongs ps z) cs (c ∷ []) ∙ and_true _ _ k.placed (ap (λ b. b && true) there);
-      steady = list_all-append is_steady cs (c ∷ []) ∙ and_true _ _ k.steady (ap (λ b. b && true) steady);
+          (ap (λ b. b || false) (any_map (λ n. same_name n c.name) (λ c. c.name) cs ∙ new));
+      placed = list_all-append (belongs ps z) cs (c ∷ []) ∙ and_from _ _ k.placed (ap (λ b. b && true) there);
+      steady = list_all-append is_steady cs (c ∷ []) ∙ and_from _ _ k.steady (ap (λ b. b && true) steady);
     })
 
 pub place_kept : (ps : List Profile) (z : ZonesData) (cs : List Carrier) (ats : List (Option ℕ)) → are_carriers ps z cs ≡ true → moves_locked cs ats ≡ false → are_carriers ps z (placed cs ats) ≡ true
@@ -87,7 +88,7 @@ wider_kept ps qs z w cs hp hz h =
       few = k.few;
       apart = k.apart;
       placed = list_all-wider (belongs ps z) (belongs qs w) cs
-          (λ c. λ b. let parts = both_true _ _ b in and_true _ _ (hp c.profile parts.0) (hz c.zone parts.1)) k.placed;
+          (λ c. λ b. let parts = and_parts _ _ b in and_from _ _ (hp c.profile parts.0) (hz c.zone parts.1)) k.placed;
       steady = k.steady;
     })
 
@@ -113,26 +114,22 @@ change_profile_kept s name f k names widths =
       scans = k.scans;
     }
 
-false_unless : (b : Bool) → (b ≡ true → ⊥) → b ≡ false
-false_unless true h = absurd (h refl)
-false_unless false h = refl
-
 -- a profile of another name is still there
 other_profile : (ps : List Profile) (name other : List ℕ) → same_name other name ≡ false → has_profile ps other ≡ true → has_profile (remove_first (is_profile name) ps) other ≡ true
 other_profile ps name other apart h =
     find_any (is_profile other) (remove_first (is_profile name) ps)
     ∙ list_any-remove_first (is_profile other) (is_profile name) ps
-    (λ p. λ e. false_unless (same_name p.name other) (λ f. let both = same_both p.name name other e f in cc (apart, both)))
+    (λ p. λ e. false_from_ne_true (same_name p.name other) (λ f. let both = same_both p.name name other e f in cc (apart, both)))
     (sym (find_any (is_profile other) ps) ∙ h)
 
 belong_still : (ps : List Profile) (z : ZonesData) (name : List ℕ) (cs : List Carrier) → is_used cs name ≡ false →
     list_all (belongs ps z) cs ≡ true → list_all (belongs (remove_first (is_profile name) ps) z) cs ≡ true
 belong_still ps z name [] free h = refl
 belong_still ps z name (c ∷ cs) free h =
-    let apart = or_false (same_name c.profile name) (is_used cs name) free in
-    let parts = both_true _ _ h in
-    let own = both_true _ _ parts.0 in
-    and_true _ _ (and_true _ _ (other_profile ps name c.profile apart.0 own.0) own.1) (belong_still ps z name cs apart.1 parts.1)
+    let apart = or_parts (same_name c.profile name) (is_used cs name) free in
+    let parts = and_parts _ _ h in
+    let own = and_parts _ _ parts.0 in
+    and_from _ _ (and_from _ _ (other_profile ps name c.profile apart.0 own.0) own.1) (belong_still ps z name cs apart.1 parts.1)
 
 -- a profile that no carrier has
 pub drop_profile_kept : (s : ShowData) (name : List ℕ) → Kept s → is_used s.carriers name ≡ false → Kept (record s { profiles = remove_first (is_profile name) s.profiles })
@@ -162,11 +159,11 @@ add_profiles_kept s list k room new apart narrow =
         few = omega (arith, room, length-append s.profiles list);
         apart = ap differ (map-append (λ p. p.name) s.profiles list)
             ∙ differ-append (profile_names s.profiles) (profile_names list) own.apart apart
-            (list_any-map (λ y. list_any (λ x. same_name x y) (profile_names s.profiles)) (λ p. p.name) list
-            ∙ list_any-same (λ p. list_any (λ x. same_name x p.name) (profile_names s.profiles)) (λ p. has_profile s.profiles p.name) list
+            (any_map (λ y. list_any (λ x. same_name x y) (profile_names s.profiles)) (λ p. p.name) list
+            ∙ any_same (λ p. list_any (λ x. same_name x p.name) (profile_names s.profiles)) (λ p. has_profile s.profiles p.name) list
             (λ p. sym (has_profile_names s.profiles p.name))
             ∙ new);
-        narrow = list_all-append is_narrow s.profiles list ∙ and_true _ _ own.narrow narrow;
+        narrow = list_all-append is_narrow s.profiles list ∙ and_from _ _ own.narrow narrow;
       });
       carriers = wider_kept s.profiles (s.profiles ++ list) s.zones s.zones s.carriers
           (λ n. λ h. find_any (is_profile n) (s.profiles ++ list) ∙ list_any-append (is_profile n) s.profiles list
@@ -180,23 +177,23 @@ add_profiles_kept s list k room new apart narrow =
 
 pub add_ban_kept : (z : ZonesData) (bans : List Ban) (ban : Ban) → are_bans z bans ≡ true → length bans < most_bans → is_ban z ban ≡ true → are_bans z (bans ++ ban ∷ []) ≡ true
 add_ban_kept z bans ban h room there =
-    and_true _ _ (le-leb _ _ (omega (arith, room, length-append bans (ban ∷ []))))
-    (list_all-append (is_ban z) bans (ban ∷ []) ∙ and_true _ _ (both_true _ _ h).1 (ap (λ b. b && true) there))
+    and_from _ _ (le-leb _ _ (omega (arith, room, length-append bans (ban ∷ []))))
+    (list_all-append (is_ban z) bans (ban ∷ []) ∙ and_from _ _ (and_parts _ _ h).1 (ap (λ b. b && true) there))
 
 pub remove_ban_kept : (z : ZonesData) (bans : List Ban) (i : ℕ) → are_bans z bans ≡ true → i < length bans → are_bans z (remove bans i) ≡ true
 remove_ban_kept z bans i h within =
-    let few : length bans ≤ most_bans = leb-true _ _ (both_true _ _ h).0 in
-    and_true _ _ (le-leb _ _ (omega (arith, few, length-remove bans i within))) (list_all-remove (is_ban z) bans i (both_true _ _ h).1)
+    let few : length bans ≤ most_bans = leb-true _ _ (and_parts _ _ h).0 in
+    and_from _ _ (le-leb _ _ (omega (arith, few, length-remove bans i within))) (list_all-remove (is_ban z) bans i (and_parts _ _ h).1)
 
 pub add_scan_kept : (z : ZonesData) (scans : List ScanSet) (scan : ScanSet) → are_scans z scans ≡ true → length scans < most_scans → is_scan z scan ≡ true → are_scans z (scans ++ scan ∷ []) ≡ true
 add_scan_kept z scans scan h room there =
-    and_true _ _ (le-leb _ _ (omega (arith, room, length-append scans (scan ∷ []))))
-    (list_all-append (is_scan z) scans (scan ∷ []) ∙ and_true _ _ (both_true _ _ h).1 (ap (λ b. b && true) there))
+    and_from _ _ (le-leb _ _ (omega (arith, room, length-append scans (scan ∷ []))))
+    (list_all-append (is_scan z) scans (scan ∷ []) ∙ and_from _ _ (and_parts _ _ h).1 (ap (λ b. b && true) there))
 
 pub remove_scan_kept : (z : ZonesData) (scans : List ScanSet) (i : ℕ) → are_scans z scans ≡ true → i < length scans → are_scans z (remove scans i) ≡ true
 remove_scan_kept z scans i h within =
-    let few : length scans ≤ most_scans = leb-true _ _ (both_true _ _ h).0 in
-    and_true _ _ (le-leb _ _ (omega (arith, few, length-remove scans i within))) (list_all-remove (is_scan z) scans i (both_true _ _ h).1)
+    let few : length scans ≤ most_scans = leb-true _ _ (and_parts _ _ h).0 in
+    and_from _ _ (le-leb _ _ (omega (arith, few, length-remove scans i within))) (list_all-remove (is_scan z) scans i (and_parts _ _ h).1)
 
 -- ---- zones
 
@@ -209,15 +206,15 @@ more_zones_kept : (s : ShowData) (w : ZonesData) → Kept s → ((n : List ℕ) 
 more_zones_kept s w k hz = record {
   profiles = k.profiles;
   carriers = wider_kept s.profiles s.profiles s.zones w s.carriers (λ n. λ h. h) hz k.carriers;
-  bans = and_true _ _ (both_true _ _ k.bans).0
+  bans = and_from _ _ (and_parts _ _ k.bans).0
       (list_all-wider (is_ban s.zones) (is_ban w) s.bans
-      (λ b. λ h. let parts = both_true _ _ h in and_true _ _ (wider_zone s.zones w b.zone hz parts.0) parts.1) (both_true _ _ k.bans).1);
-  scans = and_true _ _ (both_true _ _ k.scans).0
+      (λ b. λ h. let parts = and_parts _ _ h in and_from _ _ (wider_zone s.zones w b.zone hz parts.0) parts.1) (and_parts _ _ k.bans).1);
+  scans = and_from _ _ (and_parts _ _ k.scans).0
       (list_all-wider (is_scan s.zones) (is_scan w) s.scans
       (λ c. λ h.
-      let width = both_true _ _ h in
-      let threshold = both_true _ _ width.0 in
-      and_true _ _ (and_true _ _ (hz c.zone threshold.0) threshold.1) width.1) (both_true _ _ k.scans).1);
+      let width = and_parts _ _ h in
+      let threshold = and_parts _ _ width.0 in
+      and_from _ _ (and_from _ _ (hz c.zone threshold.0) threshold.1) width.1) (and_parts _ _ k.scans).1);
 }
 
 pub add_zone_kept : (s : ShowData) (name : List ℕ) → Kept s → Kept (record s { zones = with_zone s.zones name })

@@ -1,14 +1,14 @@
-pub mod AdmittedLemmas
-pub mod EditedLemmas
-pub mod RaisedLemmas
-pub mod FirstLemmas
-pub mod KeptLemmas
-pub mod ListLemmas
-pub mod NameLemmas
-pub mod PlaceLemmas
-pub mod ReasonLemmas
-pub mod RoomLemmas
-pub mod TogetherLemmas
-pub mod QueryLemmas
-pub mod CaseLemmas
-pub mod CompanyLemmas
+pub mod CompanyLaws
+pub mod FirstLaws
+pub mod KeptLaws
+pub mod PlaceLaws
+mod AdmittedLemmas
+mod CaseLemmas
+mod EditedLemmas
+mod ListLemmas
+mod NameLemmas
+mod QueryLemmas
+mod RaisedLemmas
+mod ReasonLemmas
+mod RoomLemmas
+mod TogetherLemmas

@@ -1,7 +1,7 @@
-use Rattle.std.proofs.Common.{◌≡◌, ℕ, zero, suc, ◌+◌, ◌<◌, ◌≤◌, Bool, true, false, not, ◌&&◌, ◌||◌, cond, Some, IsSome, List, [], ◌∷◌, length, get_or, set, insert, remove, find, position, refl, ap}
+use Rattle.std.proofs.Common.{◌≡◌, ℕ, zero, suc, ◌+◌, ◌<◌, ◌≤◌, Bool, true, false, not, cond, Some, IsSome, List, [], ◌∷◌, length, get_or, set, insert, remove, find, position, refl, ap}
 use Rattle.std.proofs.Common.{sym, arith}
 use Rattle.std.specs.List.{position_or_len, list_all}
-use Rattle.std.proofs.lemmas.Bool.{lt-ltb}
+use Rattle.std.proofs.lemmas.Bool.{lt-ltb, and_from, and_parts}
 use Rattle.rf_show.specs.After.{change_first, remove_first}
 
 pub remove_insert : {X : Type 0} (xs : List X) (i : ℕ) (y : X) → i ≤ length xs → remove (insert xs i y) i ≡ xs
@@ -13,14 +13,6 @@ pub set_back : {X : Type 0} (xs : List X) (i : ℕ) (y z : X) → i < length xs 
 set_back [] i y z h e = absurd (omega arith)
 set_back (x ∷ xs) zero y z h e = ap (λ q. q ∷ xs) e
 set_back (x ∷ xs) (suc i) y z h e = ap (λ q. x ∷ q) (set_back xs i y z (omega arith) e)
-
-pub and_true : (a b : Bool) → a ≡ true → b ≡ true → (a && b) ≡ true
-and_true a b ha hb = rw (ha, hb) refl
-
-pub both_true : (a b : Bool) → (a && b) ≡ true → (a ≡ true) × (b ≡ true)
-both_true true true h = (refl, refl)
-both_true true false h = cc
-both_true false b h = cc
 
 -- ---- the first element that passes
 
@@ -64,12 +56,12 @@ found_position p xs h = rw (lt-ltb _ _ (found_place p xs h)) refl
 pub list_all-remove : {X : Type 0} (q : X → Bool) (xs : List X) (i : ℕ) → list_all q xs ≡ true → list_all q (remove xs i) ≡ true
 list_all-remove q [] zero h = refl
 list_all-remove q [] (suc i) h = refl
-list_all-remove q (x ∷ xs) zero h = (both_true _ _ h).1
-list_all-remove q (x ∷ xs) (suc i) h = and_true _ _ (both_true _ _ h).0 (list_all-remove q xs i (both_true _ _ h).1)
+list_all-remove q (x ∷ xs) zero h = (and_parts _ _ h).1
+list_all-remove q (x ∷ xs) (suc i) h = and_from _ _ (and_parts _ _ h).0 (list_all-remove q xs i (and_parts _ _ h).1)
 
 pub list_all-wider : {X : Type 0} (q r : X → Bool) (xs : List X) → ((x : X) → q x ≡ true → r x ≡ true) → list_all q xs ≡ true → list_all r xs ≡ true
 list_all-wider q r [] w h = refl
-list_all-wider q r (x ∷ xs) w h = and_true _ _ (w x (both_true _ _ h).0) (list_all-wider q r xs w (both_true _ _ h).1)
+list_all-wider q r (x ∷ xs) w h = and_from _ _ (w x (and_parts _ _ h).0) (list_all-wider q r xs w (and_parts _ _ h).1)
 
 -- ---- options
 
@@ -79,6 +71,3 @@ some_is a b h = cc
 pub not_false : (b : Bool) → not b ≡ false → b ≡ true
 not_false true h = refl
 not_false false h = cc
-
-pub or_left : (a b : Bool) → a ≡ true → (a || b) ≡ true
-or_left a b h = rw h refl

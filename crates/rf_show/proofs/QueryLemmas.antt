@@ -1,15 +1,13 @@
 -- Lemmas on questions about a show.
-use Rattle.std.proofs.Common.{◌≡◌, ◌<◌, ◌≤◌, ℕ, Bool, true, false, cond, List, [], ◌∷◌, length, get_or, Option, Some, None, arith, inl, inr, refl, sym, ap, ◌∙◌}
-use Rattle.std.specs.Prelude.{find, is_some}
+use Rattle.std.proofs.Common.{◌≡◌, ◌<◌, ◌≤◌, ℕ, Bool, true, false, cond, List, [], ◌∷◌, length, get_or, Option, Some, None, arith, inl, inr, refl, sym, ap, ◌∙◌, find, is_some, IsSome}
+use Rattle.std.proofs.Common.{IfSome, IfNone, All, nat_le, Contains, slice_get, nat_eq, ◌==◌, leb-true}
 use Rattle.std.specs.List.{list_all, list_any}
-use Rattle.std.proofs.lemmas.Bool.{false≢true, leb-true}
+use Rattle.std.proofs.lemmas.Bool.{false≢true, and_parts}
 use Rattle.std.proofs.lemmas.Bool.Decides.{nat_tests}
-use Rattle.std.proofs.lemmas.Option.{slice_get-get_or}
-use Rattle.std.specs.Prelude.{IsSome, IfSome, IfNone, All, nat_le, Contains, slice_get, nat_eq, ◌==◌}
+use Rattle.std.proofs.lemmas.Option.{slice_get-get_or, slice_get_cases, get_or_from_slice_get}
 use Rattle.std.specs.Option.{option_and_then, option_copied}
 use denote.Bor.{Bor}
 use Rattle.std.proofs.lemmas.Map.Views.{Contains-from_any}
-use Rattle.std.proofs.lemmas.Option.{slice_get_cases, get_or_from_slice_get}
 use Rattle.std.proofs.lemmas.List.Folds.{list_any_at}
 use Rattle.std.proofs.lemmas.List.Sums.{AllPass-from_list_all}
 use Rattle.rf_profiles.specs.Profile.{margin_widths}
@@ -17,14 +15,13 @@ use Rattle.rf_profiles.specs.declared.profile.Profile.{Profile}
 use Rattle.rf_show.specs.Limits.{widest}
 use Rattle.rf_show.specs.Show.{ShowData, is_narrow, belongs, has_profile, is_profile, is_show}
 use Rattle.rf_show.specs.Query.{profile_of}
-use Rattle.rf_show.proofs.KeptLemmas.{carriers_kept, kept, profiles_kept}
-use Rattle.rf_show.proofs.ListLemmas.{both_true}
+use Rattle.rf_show.proofs.KeptLaws.{carriers_kept, kept, profiles_kept}
 use Rattle.rf_show.specs.declared.carrier.Carrier.{Carrier}
 
 -- the profile of each carrier is there
 pub carrier-has_profile : (show : ShowData) (c : ℕ) (d : Carrier) → is_show show ≡ true → c < length show.carriers → has_profile show.profiles (get_or show.carriers c d).profile ≡ true
 carrier-has_profile show c d h p =
-    (both_true _ _ (AllPass-from_list_all (belongs show.profiles show.zones) show.carriers (carriers_kept show.profiles show.zones show.carriers (kept show h).carriers).placed c d p)).0
+    (and_parts _ _ (AllPass-from_list_all (belongs show.profiles show.zones) show.carriers (carriers_kept show.profiles show.zones show.carriers (kept show h).carriers).placed c d p)).0
 
 pub profile-is : (show : ShowData) (c : ℕ) (d : Carrier) → c < length show.carriers → profile_of show c ≡ find (is_profile (get_or show.carriers c d).profile) show.profiles
 profile-is show c d p =
@@ -55,7 +52,7 @@ found_cond false p q o h now rest = rest h
 found-all : (ps : List Profile) (name : List ℕ) (q : Profile) → list_all is_narrow ps ≡ true → find (is_profile name) ps ≡ Some q → is_narrow q ≡ true
 found-all [] name q all h = cc
 found-all (p ∷ ps) name q all h =
-    let parts = both_true (is_narrow p) _ all in
+    let parts = and_parts (is_narrow p) _ all in
     found_cond (is_profile name p) p q (find (is_profile name) ps) h parts.0 (found-all ps name q parts.1)
 
 -- a profile that is found asks nothing that is too wide
@@ -64,10 +61,10 @@ found-narrow show name q h found = found-all show.profiles name q (profiles_kept
 
 -- what a profile that asks nothing too wide asks
 pub spacing-narrow : (p : Profile) → is_narrow p ≡ true → p.spacing ≤ widest
-spacing-narrow p h = leb-true _ _ (both_true (nat_le p.spacing widest) _ h).0
+spacing-narrow p h = leb-true _ _ (and_parts (nat_le p.spacing widest) _ h).0
 
 pub margins-narrow : (p : Profile) → is_narrow p ≡ true → All (λ m. m ≤ widest) (margin_widths p.margins)
 margins-narrow p h =
     let all : list_all (λ n. nat_le n widest) (margin_widths p.margins) ≡ true =
-    (both_true (nat_le p.half widest) _ (both_true (nat_le p.spacing widest) _ h).1).1 in
+    (and_parts (nat_le p.half widest) _ (and_parts (nat_le p.spacing widest) _ h).1).1 in
     λ k d low. leb-true _ _ (AllPass-from_list_all (λ n. nat_le n widest) (margin_widths p.margins) all k d low)

@@ -5,13 +5,13 @@ use Rattle.std.proofs.lemmas.List.{length-map}
 use Rattle.rf_base.specs.Name.{same_name}
 use Rattle.rf_profiles.specs.Profile.{differ, is_width, profile_names, wider_profile, widths}
 use Rattle.rf_profiles.specs.declared.profile.Profile.{Profile}
-use Rattle.rf_profiles.proofs.WiderLemmas.{wider_within}
+use Rattle.rf_profiles.proofs.WiderLaws.{wider_within}
 use Rattle.rf_show.specs.Limits.{most_raised}
 use Rattle.rf_show.specs.Raised.{is_textual, raised}
 use Rattle.rf_show.specs.Show.{ShowData, is_narrow, is_show}
 use Rattle.rf_show.proofs.EditedLemmas.{has_profile_names, wider_kept}
-use Rattle.rf_show.proofs.KeptLemmas.{Kept, are_kept_profiles, is_kept, kept, profiles_kept}
-use Rattle.rf_show.proofs.ListLemmas.{and_true, both_true}
+use Rattle.rf_show.proofs.KeptLaws.{Kept, are_kept_profiles, is_kept, kept, profiles_kept}
+use Rattle.std.proofs.lemmas.Bool.{and_from, and_parts}
 
 raised_names : (ps : List Profile) (extra : ℕ) → profile_names (map (wider_profile extra) ps) ≡ profile_names ps
 raised_names [] extra = refl
@@ -20,8 +20,8 @@ raised_names (p ∷ ps) extra = ap (λ names. p.name ∷ names) (raised_names ps
 raised_narrow : (ps : List Profile) (extra : ℕ) → extra ≤ most_raised → list_all (λ p. list_all is_width (widths p)) ps ≡ true → list_all is_narrow (map (wider_profile extra) ps) ≡ true
 raised_narrow [] extra few h = refl
 raised_narrow (p ∷ ps) extra few h =
-    let parts = both_true (list_all is_width (widths p)) _ h in
-    and_true _ _ (wider_within extra p parts.0 few) (raised_narrow ps extra few parts.1)
+    let parts = and_parts (list_all is_width (widths p)) _ h in
+    and_from _ _ (wider_within extra p parts.0 few) (raised_narrow ps extra few parts.1)
 
 raised_kept : (s : ShowData) (extra : ℕ) → extra ≤ most_raised → is_textual s ≡ true → Kept s → Kept (raised s extra)
 raised_kept s extra few textual k =

@@ -1,7 +1,7 @@
 use Rattle.std.proofs.Common.{◌≡◌, ℕ, ◌<◌, ◌≤◌, Bool, true, false, ◌&&◌, cond, List, [], ◌∷◌, ◌++◌, length, get_or, Some, None, Ok, Err, IsOk, IsSome, Option, Result, nat_le, refl, ap, sym, ◌∙◌}
 use Rattle.std.specs.List.{position_or_len}
 use Rattle.std.specs.Option.{option_map_or}
-use Rattle.std.proofs.lemmas.Bool.{leb-false, leb-true}
+use Rattle.std.proofs.lemmas.Bool.{leb-false, leb-true, and_parts}
 use Rattle.rf_exclusions.specs.declared.ban.Ban.{Ban}
 use Rattle.rf_exclusions.specs.declared.scan_set.ScanSet.{ScanSet}
 use Rattle.rf_profiles.specs.Channels.{with_range}
@@ -18,10 +18,9 @@ use Rattle.rf_show.specs.Limits.{most_bans, most_carriers, most_intervals, most_
 use Rattle.rf_show.specs.Reasons.{fault_reason, first_reason, named_range_reason, time_reasons}
 use Rattle.rf_show.specs.Show.{ShowData, is_show, is_carrier, is_profile, profile_named}
 use Rattle.rf_show.specs.Taken.{leads, step_fits, stepped}
-use Rattle.rf_show.proofs.FirstLemmas.{find_at}
-use Rattle.rf_show.proofs.KeptLemmas.{kept, profiles_kept, carriers_kept}
+use Rattle.rf_show.proofs.FirstLaws.{find_at}
+use Rattle.rf_show.proofs.KeptLaws.{kept, profiles_kept, carriers_kept}
 use Rattle.rf_show.proofs.ReasonLemmas.{none_holds}
-use Rattle.rf_show.proofs.ListLemmas.{both_true}
 
 led : (b : Bool) (s : ShowData) → IsSome (cond b (Some s) None) → b ≡ true
 led true s h = refl
@@ -37,7 +36,7 @@ leads_there s t u h e = led_to (step_fits s u && is_show (stepped s u)) (stepped
 
 -- where a step leads, there is a show
 pub led_shown : (s : ShowData) (u : Step) → IsSome (leads s u) → is_show (stepped s u) ≡ true
-led_shown s u h = (both_true _ _ (led (step_fits s u && is_show (stepped s u)) (stepped s u) h)).1
+led_shown s u h = (and_parts _ _ (led (step_fits s u && is_show (stepped s u)) (stepped s u) h)).1
 
 -- so the lists aren't longer than a show's may be
 pub profiles_room : (s : ShowData) (u : Step) (change : Change Profile) → IsSome (leads s u) → u ≡ Profiles change → length (changed s.profiles change) ≤ most_profiles
@@ -50,11 +49,11 @@ carriers_room s u change h e =
 
 pub bans_room : (s : ShowData) (u : Step) (change : Change Ban) → IsSome (leads s u) → u ≡ Bans change → length (changed s.bans change) ≤ most_bans
 bans_room s u change h e =
-    leb-true _ _ (both_true _ _ (kept _ (ap (λ u. is_show (stepped s u)) (sym e) ∙ led_shown s u h)).bans).0
+    leb-true _ _ (and_parts _ _ (kept _ (ap (λ u. is_show (stepped s u)) (sym e) ∙ led_shown s u h)).bans).0
 
 pub scans_room : (s : ShowData) (u : Step) (change : Change ScanSet) → IsSome (leads s u) → u ≡ Scans change → length (changed s.scans change) ≤ most_scans
 scans_room s u change h e =
-    leb-true _ _ (both_true _ _ (kept _ (ap (λ u. is_show (stepped s u)) (sym e) ∙ led_shown s u h)).scans).0
+    leb-true _ _ (and_parts _ _ (kept _ (ap (λ u. is_show (stepped s u)) (sym e) ∙ led_shown s u h)).scans).0
 
 -- a carrier that may have an interval more
 pub time_room : (cs : List Carrier) (name : List ℕ) (from to : ℕ) (i : ℕ) (c : Carrier) → first_reason (time_reasons cs name from to) ≡ None →

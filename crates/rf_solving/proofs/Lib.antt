@@ -1,4 +1,4 @@
-pub mod ListLemmas
-pub mod LogLemmas
-pub mod Endings
-pub mod PlacingLaws
+pub mod LinesLaws
+mod Endings
+mod LogLemmas
+mod PlacingLaws

@@ -1,15 +1,12 @@
 -- The text of a log is that of its lines.
-use Rattle.std.proofs.Common.{◌≡◌, ◌+◌, ◌++◌, ◌∷◌, [], ℕ, suc, List, All, ap, sym, subst, ◌∙◌, refl, length, take, append-nil, arith}
-use Rattle.std.specs.Prelude.{Result, Ok, Err}
+use Rattle.std.proofs.Common.{◌≡◌, ◌+◌, ◌++◌, ◌∷◌, [], ℕ, List, All, ap, sym, subst, ◌∙◌, refl, length, take, append-nil, arith, Result, Ok, Err, length-append}
 use Rattle.std.specs.Result.{IfOk}
-use Rattle.std.proofs.lemmas.List.{length-append, length-map}
 use Rattle.std.specs.List.{flat_map}
 use Rattle.std.specs.Io.KnownBytes.{Appends}
 use Rattle.std.specs.declared.option.Option.{Option}
-use Rattle.std.specs.declared.option.Option.TheVariants.{Some, None}
 use Rattle.std.proofs.lemmas.List.Concat.{flat_map-append}
 use Rattle.std.proofs.lemmas.List.Elements.{All-nil, All-push}
-use Rattle.rf_base.proofs.Bytes.{Appends-then}
+use Rattle.rf_base.proofs.ByteLaws.{Appends-then, Appends-nil}
 use Rattle.rf_base.specs.Piece.{AppendsPrefix}
 use Rattle.rf_log.specs.Case.{Case}
 use Rattle.rf_log.specs.LineTexts.{line_text_of}
@@ -24,6 +21,8 @@ use Rattle.rf_show.specs.Case.{case_of}
 use Rattle.rf_show.specs.Show.{ShowData, carrier_names}
 use Rattle.rf_solving.specs.LogWriter.{Wrote, WrotePart}
 use Rattle.rf_solving.specs.Solving.{IsBegun, IsSolvedBy, IsWritten, log_text}
+use Rattle.rf_base.proofs.ListLaws.{take_past}
+use Rattle.rf_show.proofs.KeptLaws.{names_many}
 
 -- the text of lines over these names
 abbrev pub lines_text : List (List ℕ) → List LogLine → List ℕ
@@ -32,10 +31,6 @@ lines_text names log = flat_map (line_text_of names) log
 pub text_push : (names : List (List ℕ)) (log : List LogLine) (line : LogLine) → lines_text names (log ++ line ∷ []) ≡ lines_text names log ++ line_text_of names line
 text_push names log line =
     flat_map-append (line_text_of names) log (line ∷ []) ∙ ap (λ text. lines_text names log ++ text) (append-nil (line_text_of names line))
-
-pub appends_nothing : (held : Option (List ℕ)) → Appends held held []
-appends_nothing None = tt
-appends_nothing (Some bytes) = sym (append-nil bytes)
 
 -- lines were written one after another
 pub record AreWritten (names : List (List ℕ)) (old new : Option (List ℕ)) (log : List LogLine) : Type 0 where
@@ -53,7 +48,7 @@ pub leads_written : {S : Type 0} {taken : S → LogLine → S → Type 0} (names
     → ((old new : S) (line : LogLine) → taken old line new → names new ≡ names old)
     → ((old new : S) (line : LogLine) → taken old line new → Wrote (names old) (held old) (held new) line)
     → {first last : S} {log : List LogLine} → Leads taken first log last → AreWritten (names first) (held first) (held last) log
-leads_written names held same wrote (none {state = s}) = record { written = All-nil (IsWritten (length (names s))); wrote = appends_nothing (held s) }
+leads_written names held same wrote (none {state = s}) = record { written = All-nil (IsWritten (length (names s))); wrote = Appends-nil (held s) }
 leads_written names held same wrote (and_then {first = first} {mid = mid} {last = last} {lines = log} {line = line} before took) =
     let so_far = leads_written names held same wrote before in
     let one : Wrote (names first) (held mid) (held last) line = subst (λ ns. Wrote ns (held mid) (held last) line) (leads_same names same before) (wrote mid last line took) in record {
@@ -76,12 +71,6 @@ pub written_by : {S : Type 0} {taken failed : S → LogLine → S → Type 0} (w
     Leads taken first log last → AreWritten (w.names first) (w.held first) (w.held last) log
 written_by w leads = leads_written w.names w.held w.same w.wrote leads
 
-take_past : (xs ys : List ℕ) (k : ℕ) → xs ++ take k ys ≡ take (length xs + k) (xs ++ ys)
-take_past [] ys k = let none : k ≡ 0 + k = omega arith in ap (λ n. take n ys) none
-take_past (x ∷ xs) ys k =
-    let one : suc (length xs + k) ≡ suc (length xs) + k = omega arith in
-    ap (λ zs. x ∷ zs) (take_past xs ys k) ∙ ap (λ n. take n (x ∷ (xs ++ ys))) one
-
 -- the last line was written in part
 pub written_in_part : {S : Type 0} {taken failed : S → LogLine → S → Type 0} (w : IsWriter taken failed) {first last : S} {log : List LogLine} →
     LeadsToFailed taken failed first log last → AppendsPrefix (w.held first) (w.held last) (lines_text (w.names first) log)
@@ -100,10 +89,6 @@ written_in_part w {first} {last} {log} way =
       grew = Appends-then (w.held first) (w.held way.mid) (w.held last) front (take one.count (line_text_of names way.line)) _ so_far.wrote one.grew
           (sym (take_past front (line_text_of names way.line) one.count));
     }
-
--- the names of a show's carriers are as many as they
-names_many : (show : ShowData) → length (carrier_names show.carriers) ≡ length show.carriers
-names_many show = length-map show.carriers (λ c. c.name)
 
 -- the writer still has the sink that it began with
 pub kept_by : {S : Type 0} {taken failed : S → LogLine → S → Type 0} (w : IsWriter taken failed) (r : Result Answer SolveFault) (first last : S)

@@ -1,10 +1,9 @@
 -- A plan is applied as one edit.
-use Rattle.std.proofs.Common.{◌≡◌, ℕ, zero, suc, ◌+◌, ◌<◌, ◌≤◌, Bool, true, false, not, ◌&&◌, ◌||◌, cond, find, List, [], ◌∷◌, length, map, nat_le, Option, Some, None, refl, ap, sym, subst, ◌∙◌}
-use Rattle.std.proofs.Common.{arith}
-use Rattle.std.specs.Prelude.{All, slice_get, slice_index}
+use Rattle.std.proofs.Common.{◌≡◌, ℕ, zero, suc, ◌+◌, ◌<◌, ◌≤◌, Bool, true, false, not, ◌&&◌, ◌||◌, cond, find, List, [], ◌∷◌, length, map, nat_le, Option, Some, None, refl, ap, sym, subst}
+use Rattle.std.proofs.Common.{◌∙◌, arith, All, slice_get, slice_index, eq-eqb, leb-true}
 use Rattle.std.specs.List.{range_with_len}
 use Rattle.std.specs.Option.{option_and_then, option_map_or}
-use Rattle.std.proofs.lemmas.Bool.{eq-eqb, leb-true}
+use Rattle.std.proofs.lemmas.Bool.{or_from}
 use Rattle.std.proofs.lemmas.List.{length-map}
 use Rattle.std.proofs.lemmas.List.FromFn.{get_or-map-range_with_len, length-map-range_with_len}
 use Rattle.std.proofs.lemmas.List.Elements.{All-append, All-cons, All-head, All-nil, All-tail}
@@ -29,15 +28,12 @@ unmoved : (locked : Bool) (at : Option ℕ) (f : ℕ) → (not locked || same_at
 unmoved false at f h = refl
 unmoved true at f h = ap not h
 
-neither : (a b : Bool) → a ≡ false → b ≡ false → (a || b) ≡ false
-neither a b ha hb = rw (ha, hb) refl
-
 -- no locked carrier moves where each may stand at its new frequency
 none_moves : (cs : List Carrier) (f : ℕ → ℕ) (from : ℕ) → ((i n : ℕ) (c : Carrier) → from + i ≡ n → slice_get cs i ≡ Some c → may_stand c (f n) ≡ true)
     → moves_locked cs (map Some (map f (range_with_len from (length cs)))) ≡ false
 none_moves [] f from h = refl
 none_moves (c ∷ cs) f from h =
-    neither _ _ (unmoved c.locked c.at (f from) (h 0 from c (omega arith) refl))
+    or_from _ _ (unmoved c.locked c.at (f from) (h 0 from c (omega arith) refl))
     (none_moves cs f (from + 1) (λ i n d e is. h (suc i) n d (omega (arith, e)) is))
 
 -- ---- a carrier may stand at its frequency in a plan

@@ -1,15 +1,8 @@
-pub mod ListLemmas
-pub mod MarkLemmas
-pub mod FillLemmas
-pub mod CrowdLemmas
-pub mod SiteLemmas
-pub mod HarmLemmas
-pub mod HarmsLemmas
-pub mod SearchLemmas
-pub mod RunLemmas
-pub mod SpareLemmas
-pub mod FieldLemmas
-pub mod ChannelLemmas
-pub mod LawLemmas
-pub mod ChoiceLemmas
-pub mod ChosenLemmas
+mod FieldLemmas
+mod HarmLemmas
+mod LawLemmas
+mod ListLemmas
+mod RunLemmas
+mod SearchLemmas
+mod SiteLemmas
+mod SpareLemmas

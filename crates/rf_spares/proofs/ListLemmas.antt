@@ -1,74 +1,24 @@
--- Lemmas on lists, and on whether one of many lists passes a test.
-use Rattle.std.proofs.Common.{◌≡◌, ◌<◌, ◌≤◌, ◌+◌, ℕ, zero, suc, Bool, true, false, ◌||◌, ◌&&◌, ◌==◌, List, [], ◌∷◌, ◌++◌, length, map, refl, ap, sym, ◌∙◌, arith, inl, inr}
-use Rattle.std.specs.Prelude.{not, nat_lt, insert}
-use Rattle.std.specs.List.{flat_map, list_all, list_any}
-use Rattle.std.proofs.lemmas.Bool.{cases_Bool, cases_lt, true≢false}
+-- Lemmas on lists, on whether one of many lists passes a test, and on arrays that are filled from their first place on.
+use Rattle.std.proofs.Common.{◌≡◌, ◌<◌, ◌≤◌, ◌+◌, ℕ, zero, suc, Bool, true, false, ◌||◌, ◌&&◌, ◌==◌, List, [], ◌∷◌, ◌++◌, length, map, refl, ap, sym, ◌∙◌, arith, inl, inr, ◌-◌, ◌≢◌, get_or}
+use Rattle.std.proofs.Common.{set, take}
+use Rattle.std.specs.Prelude.{filter, not, nat_lt, insert, replicate, nat_le, max}
+use Rattle.std.specs.List.{list_all, list_any}
+use Rattle.std.proofs.lemmas.Bool.{cases_Bool, true≢false, and_from, and_parts, lt-ltb, ltb-true, or_cases, cases_eq}
 use Rattle.std.proofs.lemmas.Bool.Decides.{nat_tests}
-use Rattle.std.proofs.lemmas.List.Folds.{list_any-append}
+use Rattle.std.proofs.lemmas.List.{append-nil, map_more, set-append_right, append_assoc, get_or-set_other, get_or-set_same, length-map, length-take-le}
+use Rattle.std.proofs.lemmas.List.Elements.{filter-append}
+use Rattle.std.proofs.lemmas.List.Folds.{list_all-map, list_any_none, list_any_more}
 use Rattle.rf_rules.specs.Instances.{is_distinct}
 use Rattle.rf_rules.specs.Tuples.{tuples, upto}
+use Rattle.rf_rules.proofs.TupleLaws.{any-zero, any-suc, any-found, any-first, any-empty, upto-suc, upto-zero, length-upto, map-upto}
+use Rattle.rf_base.proofs.ListLaws.{all_below, tested_below}
+use Rattle.rf_base.proofs.NumberLaws.{eq_swap}
 use Rattle.rf_spares.specs.Spare.{has_role}
-
--- ---- truth values
-
-pub same-truth : (a b : Bool) → (a ≡ true → b ≡ true) → (b ≡ true → a ≡ true) → a ≡ b
-same-truth true b f g = sym (f refl)
-same-truth false true f g = g refl
-same-truth false false f g = refl
-
-pub or-parts : (a b : Bool) → (a || b) ≡ false → (a ≡ false) × (b ≡ false)
-or-parts true b h = absurd (true≢false h)
-or-parts false b h = (refl, h)
-
-pub and-parts : (a b : Bool) → (a && b) ≡ true → (a ≡ true) × (b ≡ true)
-and-parts true b h = (refl, h)
-and-parts false b h = absurd (true≢false (sym h))
-
-pub and-both : (a b : Bool) → a ≡ true → b ≡ true → (a && b) ≡ true
-and-both true b p q = q
-and-both false b p q = p
-
-pub or-false : (b : Bool) → (b || false) ≡ b
-or-false true = refl
-or-false false = refl
-
-pub or-true : (b : Bool) → (b || true) ≡ true
-or-true true = refl
-or-true false = refl
-
-pub and-true : (b : Bool) → (b && true) ≡ b
-and-true true = refl
-and-true false = refl
-
-pub and-false : (b : Bool) → (b && false) ≡ false
-and-false true = refl
-and-false false = refl
 
 -- ---- numbers below n
 
-upto-suc : (n : ℕ) → upto (suc n) ≡ upto n ++ n ∷ []
-unfolding upto
-upto-suc n = refl
-
-pub any-zero : (q : ℕ → Bool) → list_any q (upto 0) ≡ false
-unfolding upto
-any-zero q = refl
-
-pub any-suc : (q : ℕ → Bool) (i : ℕ) → list_any q (upto (suc i)) ≡ (list_any q (upto i) || q i)
-any-suc q i = ap (list_any q) (upto-suc i) ∙ list_any-append q (upto i) (i ∷ []) ∙ ap (λ b. list_any q (upto i) || b) (or-false (q i))
-
 pub any-plus : (q : ℕ → Bool) (i : ℕ) → list_any q (upto (i + 1)) ≡ (list_any q (upto i) || q i)
-any-plus q i = let e : i + 1 ≡ suc i = omega arith in ap (λ n. list_any q (upto n)) e ∙ any-suc q i
-
-pub any-found : (q : ℕ → Bool) (n i : ℕ) → i < n → q i ≡ true → list_any q (upto n) ≡ true
-any-found q zero i h p = absurd (omega (arith, h))
-any-found q (suc n) i h p =
-    elim (cases_lt i n) [
-      | inl low ↦ any-suc q n ∙ ap (λ b. b || q n) (any-found q n i low p)
-      | inr high ↦
-          let e : n ≡ i = omega (arith, high, h) in
-          any-suc q n ∙ ap (λ b. list_any q (upto n) || b) (ap q e ∙ p) ∙ or-true (list_any q (upto n))
-    ]
+any-plus q i = ap (λ n. list_any q (upto n)) (omega arith) ∙ any-suc q i
 
 -- a number below n that passes
 pub record Below (q : ℕ → Bool) (n : ℕ) : Type 0 where
@@ -79,51 +29,28 @@ pub record Below (q : ℕ → Bool) (n : ℕ) : Type 0 where
 pub any-out : (q : ℕ → Bool) (n : ℕ) → list_any q (upto n) ≡ true → Below q n
 any-out q zero h = absurd (true≢false (sym h ∙ any-zero q))
 any-out q (suc n) h =
-    elim (cases_Bool (q n)) [
-      | inl e ↦ record { at = n; low = omega arith; passes = e }
-      | inr e ↦
-          let d = any-out q n (sym (any-suc q n ∙ ap (λ b. list_any q (upto n) || b) e ∙ or-false (list_any q (upto n))) ∙ h) in
-          record { at = d.at; low = omega (arith, d.low); passes = d.passes }
+    elim (or_cases (list_any q (upto n)) (q n) (sym (any-suc q n) ∙ h)) [
+      | inl old ↦ let d = any-out q n old in record { at = d.at; low = omega (arith, d.low); passes = d.passes }
+      | inr new ↦ record { at = n; low = omega arith; passes = new }
     ]
 
-pub any-same : {X : Type 0} (p q : X → Bool) (xs : List X) → ((x : X) → p x ≡ q x) → list_any p xs ≡ list_any q xs
-any-same p q [] h = refl
-any-same p q (x ∷ xs) h = rw (h x, any-same p q xs h) refl
+pub filter-same : (p q : ℕ → Bool) (n : ℕ) → ((k : ℕ) → k < n → p k ≡ q k) → filter p (upto n) ≡ filter q (upto n)
+filter-same p q zero h = rw upto-zero refl
+filter-same p q (suc n) h = rw (upto-suc n, filter-append p (upto n), filter-append q (upto n), filter-same p q n (λ k low. h k (omega (arith, low))), h n (omega arith)) refl
 
-pub all-same : {X : Type 0} (p q : X → Bool) (xs : List X) → ((x : X) → p x ≡ q x) → list_all p xs ≡ list_all q xs
-all-same p q [] h = refl
-all-same p q (x ∷ xs) h = rw (h x, all-same p q xs h) refl
+-- the last number doesn't pass
+pub filter-last : (p q : ℕ → Bool) (n m : ℕ) → m ≡ suc n → ((k : ℕ) → k < n → p k ≡ q k) → p n ≡ false → filter p (upto m) ≡ filter q (upto n)
+filter-last p q n m e h last = rw (e, upto-suc n, filter-append p (upto n), last, append-nil) (filter-same p q n h)
 
-any-map : {X Y : Type 0} (p : Y → Bool) (f : X → Y) (xs : List X) → list_any p (map f xs) ≡ list_any (λ x. p (f x)) xs
-any-map p f [] = refl
-any-map p f (x ∷ xs) = ap (λ b. p (f x) || b) (any-map p f xs)
-
-any-parts : {X Y : Type 0} (p : Y → Bool) (f : X → List Y) (xs : List X) → list_any p (flat_map f xs) ≡ list_any (λ x. list_any p (f x)) xs
-any-parts p f [] = refl
-any-parts p f (x ∷ xs) = list_any-append p (f x) (flat_map f xs) ∙ ap (λ b. list_any p (f x) || b) (any-parts p f xs)
+-- the last one passes
+pub filter-yes : (p : ℕ → Bool) (k : ℕ) → p k ≡ true → filter p (upto (k + 1)) ≡ filter p (upto k) ++ k ∷ []
+filter-yes p k h = let e : k + 1 ≡ suc k = omega arith in rw (e, upto-suc k, filter-append p (upto k), h) refl
 
 -- ---- lists of k carriers
-
--- by the first element
-pub any-first : (p : List ℕ → Bool) (k : ℕ) (xs : List ℕ) → list_any p (tuples (suc k) xs) ≡ list_any (λ c. list_any (λ u. p (c ∷ u)) (tuples k xs)) xs
-unfolding tuples
-any-first p k xs =
-    any-parts p (λ c. map (λ u. c ∷ u) (tuples k xs)) xs
-    ∙ any-same (λ c. list_any p (map (λ u. c ∷ u) (tuples k xs))) (λ c. list_any (λ u. p (c ∷ u)) (tuples k xs)) xs (λ c. any-map p (λ u. c ∷ u) (tuples k xs))
-
-pub any-empty : (p : List ℕ → Bool) (xs : List ℕ) → list_any p (tuples 0 xs) ≡ p []
-unfolding tuples
-any-empty p xs = or-false (p [])
 
 -- all numbers of a list are below n
 abbrev pub are_below : ℕ → List ℕ → Bool
 are_below n t = list_all (λ c. nat_lt c n) t
-
-pub lt-yes : (a b : ℕ) → a < b → nat_lt a b ≡ true
-lt-yes a b h = grind (arith, nat_tests)
-
-pub lt-out : (a b : ℕ) → nat_lt a b ≡ true → a < b
-lt-out a b h = grind (arith, nat_tests)
 
 -- a list of k numbers below n that passes
 pub record Found (p : List ℕ → Bool) (k n : ℕ) : Type 0 where
@@ -132,50 +59,36 @@ pub record Found (p : List ℕ → Bool) (k n : ℕ) : Type 0 where
   pub below : are_below n list ≡ true
   pub passes : p list ≡ true
 
-pub tuples-out : (p : List ℕ → Bool) (k n : ℕ) → list_any p (tuples k (upto n)) ≡ true → Found p k n
-tuples-out p zero n h = record { list = []; size = refl; below = refl; passes = sym (any-empty p (upto n)) ∙ h }
-tuples-out p (suc k) n h =
+tuples-from : (p : List ℕ → Bool) (k n : ℕ) → list_any p (tuples k (upto n)) ≡ true → Found p k n
+tuples-from p zero n h = record { list = []; size = refl; below = refl; passes = sym (any-empty p (upto n)) ∙ h }
+tuples-from p (suc k) n h =
     let d = any-out (λ c. list_any (λ u. p (c ∷ u)) (tuples k (upto n))) n (sym (any-first p k (upto n)) ∙ h) in
-    let e = tuples-out (λ u. p (d.at ∷ u)) k n d.passes in
-    record { list = d.at ∷ e.list; size = ap suc e.size; below = and-both (nat_lt d.at n) (are_below n e.list) (lt-yes d.at n d.low) e.below; passes = e.passes }
+    let e = tuples-from (λ u. p (d.at ∷ u)) k n d.passes in
+    record { list = d.at ∷ e.list; size = ap suc e.size; below = and_from (nat_lt d.at n) (are_below n e.list) (lt-ltb d.at n d.low) e.below; passes = e.passes }
 
-pub tuples-in : (p : List ℕ → Bool) (n : ℕ) (t : List ℕ) → are_below n t ≡ true → p t ≡ true → list_any p (tuples (length t) (upto n)) ≡ true
+pub tuples-out : (p : List ℕ → Bool) (k n m : ℕ) → m ≡ n → list_any p (tuples k (upto m)) ≡ true → Found p k n
+tuples-out p k n m e h = tuples-from p k n (rw e at h)
+
+tuples-in : (p : List ℕ → Bool) (n : ℕ) (t : List ℕ) → are_below n t ≡ true → p t ≡ true → list_any p (tuples (length t) (upto n)) ≡ true
 tuples-in p n [] below h = any-empty p (upto n) ∙ h
 tuples-in p n (c ∷ t) below h =
-    let both = and-parts (nat_lt c n) (are_below n t) below in
-    any-first p (length t) (upto n) ∙ any-found (λ x. list_any (λ u. p (x ∷ u)) (tuples (length t) (upto n))) n c (lt-out c n both.0) (tuples-in (λ u. p (c ∷ u)) n t both.1 h)
+    let both = and_parts (nat_lt c n) (are_below n t) below in
+    any-first p (length t) (upto n) ∙ any-found (λ x. list_any (λ u. p (x ∷ u)) (tuples (length t) (upto n))) n c (ltb-true c n both.0) (tuples-in (λ u. p (c ∷ u)) n t both.1 h)
 
-pub tuples-in_as : (p : List ℕ → Bool) (n k : ℕ) (t : List ℕ) → length t ≡ k → are_below n t ≡ true → p t ≡ true → list_any p (tuples k (upto n)) ≡ true
-tuples-in_as p n k t e below h = ap (λ j. list_any p (tuples j (upto n))) (sym e) ∙ tuples-in p n t below h
+pub tuples-in_as : (p : List ℕ → Bool) (n m : ℕ) → m ≡ n → (k : ℕ) (t : List ℕ) → length t ≡ k → are_below n t ≡ true → p t ≡ true → list_any p (tuples k (upto m)) ≡ true
+tuples-in_as p n m f k t e below h = rw (f, ← e) (tuples-in p n t below h)
 
 -- ---- inserting
-
-and-swap : (a b c : Bool) → (a && (b && c)) ≡ (b && (a && c))
-and-swap true true c = refl
-and-swap true false c = refl
-and-swap false true c = refl
-and-swap false false c = refl
 
 pub all-insert : {X : Type 0} (p : X → Bool) (xs : List X) (i : ℕ) (x : X) → list_all p (insert xs i x) ≡ (p x && list_all p xs)
 all-insert p xs zero x = refl
 all-insert p [] (suc i) x = refl
-all-insert p (y ∷ ys) (suc i) x = ap (λ b. p y && b) (all-insert p ys i x) ∙ and-swap (p y) (p x) (list_all p ys)
-
-or-swap : (a b c : Bool) → (a || (b || c)) ≡ (b || (a || c))
-or-swap true true c = refl
-or-swap true false c = refl
-or-swap false true c = refl
-or-swap false false c = refl
+all-insert p (y ∷ ys) (suc i) x = grind (arith, all-insert p ys i x)
 
 pub any-insert : {X : Type 0} (p : X → Bool) (xs : List X) (i : ℕ) (x : X) → list_any p (insert xs i x) ≡ (p x || list_any p xs)
 any-insert p xs zero x = refl
 any-insert p [] (suc i) x = refl
-any-insert p (y ∷ ys) (suc i) x = ap (λ b. p y || b) (any-insert p ys i x) ∙ or-swap (p y) (p x) (list_any p ys)
-
-pub map-insert : {X Y : Type 0} (h : X → Y) (xs : List X) (i : ℕ) (x : X) → map h (insert xs i x) ≡ insert (map h xs) i (h x)
-map-insert h xs zero x = refl
-map-insert h [] (suc i) x = refl
-map-insert h (y ∷ ys) (suc i) x = ap (λ zs. h y ∷ zs) (map-insert h ys i x)
+any-insert p (y ∷ ys) (suc i) x = grind (arith, any-insert p ys i x)
 
 -- a list that has a number, as the number inserted into the others
 pub record Split (n : ℕ) (t : List ℕ) : Type 0 where
@@ -197,53 +110,76 @@ split n (x ∷ t) h =
 -- those that are below n + 1 and aren't n are below n
 pub below-less : (n : ℕ) (t : List ℕ) → are_below (n + 1) t ≡ true → has_role n t ≡ false → are_below n t ≡ true
 below-less n [] h none = refl
-below-less n (x ∷ t) h none =
-    let both = and-parts (nat_lt x (n + 1)) (are_below (n + 1) t) h in
-    let apart = or-parts (x == n) (has_role n t) none in
-    let low : nat_lt x n ≡ true = grind (arith, nat_tests, both.0, apart.0) in
-    and-both (nat_lt x n) (are_below n t) low (below-less n t both.1 apart.1)
+below-less n (x ∷ t) h none = grind (arith, nat_tests, below-less n t)
 
 pub below-more : (n m : ℕ) (t : List ℕ) → n ≤ m → are_below n t ≡ true → are_below m t ≡ true
-below-more n m [] le h = refl
-below-more n m (x ∷ t) le h =
-    let both = and-parts (nat_lt x n) (are_below n t) h in
-    and-both (nat_lt x m) (are_below m t) (lt-yes x m (omega (arith, le, lt-out x n both.0))) (below-more n m t le both.1)
+below-more n m t le h = tested_below m t (λ k d low. omega (arith, le, all_below n t h k d low))
 
 pub below-none : (n : ℕ) (t : List ℕ) → are_below n t ≡ true → has_role n t ≡ false
-below-none n [] h = refl
-below-none n (x ∷ t) h =
-    let both = and-parts (nat_lt x n) (are_below n t) h in
-    let low : (x == n) ≡ false = grind (arith, nat_tests, lt-out x n both.0) in
-    rw (low) (below-none n t both.1)
-
-eq-swap : (a b : ℕ) → (a == b) ≡ (b == a)
-eq-swap a b = grind (arith, nat_tests)
-
-four : (a b c d : Bool) → (not (a || b) && (not c && d)) ≡ (not (a || c) && (not b && d))
-four true b c d = refl
-four false true true d = refl
-four false true false d = refl
-four false false true d = refl
-four false false false d = refl
+below-none n t h = list_any_none (λ d. d == n) t (λ k d low. grind (arith, nat_tests, all_below n t h k d low))
 
 pub distinct-insert : (n : ℕ) (t : List ℕ) (i : ℕ) → is_distinct (insert t i n) ≡ (not (has_role n t) && is_distinct t)
 distinct-insert n t zero = refl
 distinct-insert n [] (suc i) = refl
-distinct-insert n (x ∷ t) (suc i) =
-    ap (λ b. not b && is_distinct (insert t i n)) (any-insert (λ d. d == x) t i n)
-    ∙ ap (λ b. not ((n == x) || has_role x t) && b) (distinct-insert n t i)
-    ∙ ap (λ b. not (b || has_role x t) && (not (has_role n t) && is_distinct t)) (eq-swap n x)
-    ∙ four (x == n) (has_role x t) (has_role n t) (is_distinct t)
+distinct-insert n (x ∷ t) (suc i) = grind (arith, any-insert (λ d. d == x) t i n, distinct-insert n t i, eq_swap n x)
 
 -- tests that agree below n agree on lists of numbers below n
-pub all-below : (p q : ℕ → Bool) (n : ℕ) (t : List ℕ) → ((c : ℕ) → c < n → p c ≡ q c) → are_below n t ≡ true → list_all p t ≡ list_all q t
-all-below p q n [] h low = refl
-all-below p q n (x ∷ t) h low =
-    let both = and-parts (nat_lt x n) (are_below n t) low in
-    rw (h x (lt-out x n both.0), all-below p q n t h both.1) refl
-
 pub map-below : {X : Type 0} (p q : ℕ → X) (n : ℕ) (t : List ℕ) → ((c : ℕ) → c < n → p c ≡ q c) → are_below n t ≡ true → map p t ≡ map q t
 map-below p q n [] h low = refl
 map-below p q n (x ∷ t) h low =
-    let both = and-parts (nat_lt x n) (are_below n t) low in
-    rw (h x (lt-out x n both.0), map-below p q n t h both.1) refl
+    let both = and_parts (nat_lt x n) (are_below n t) low in
+    rw (h x (ltb-true x n both.0), map-below p q n t h both.1) refl
+
+pub all-below : (p q : ℕ → Bool) (n : ℕ) (t : List ℕ) → ((c : ℕ) → c < n → p c ≡ q c) → are_below n t ≡ true → list_all p t ≡ list_all q t
+all-below p q n t h low = sym (list_all-map (λ b. b) p t) ∙ ap (list_all (λ b. b)) (map-below p q n t h low) ∙ list_all-map (λ b. b) q t
+
+-- ---- arrays that are filled
+
+-- one place more is filled
+pub fill-step : {X : Type 0} (arr xs : List X) (n i : ℕ) (z y : X) → arr ≡ xs ++ replicate (n - i) z → length xs ≡ i → i < n → set arr i y ≡ (xs ++ y ∷ []) ++ replicate (n - (i + 1)) z
+fill-step arr xs n i z y e l h =
+    let m : n - i ≡ suc (n - (i + 1)) = omega (arith, h) in
+    let none : i - i ≡ 0 = omega arith in
+    rw (e, set-append_right xs (replicate (n - i) z) i i y l (omega arith), none, m) (sym (append_assoc xs (y ∷ []) (replicate (n - (i + 1)) z)))
+
+pub fill-map : {X Y : Type 0} (g : X → Y) (xs : List X) (arr : List Y) (n i : ℕ) (z y : Y) (x : X)
+    → arr ≡ map g (take i xs) ++ replicate (n - i) z → i < length xs → length xs ≤ n → x ≡ get_or xs i x → y ≡ g x
+    → set arr i y ≡ map g (take (i + 1) xs) ++ replicate (n - (i + 1)) z
+fill-map g xs arr n i z y x e h few at is =
+    fill-step arr (map g (take i xs)) n i z y e (length-map (take i xs) g ∙ length-take-le i xs (omega (arith, h))) (omega (arith, h, few))
+    ∙ ap (λ ws. ws ++ replicate (n - (i + 1)) z) (ap (λ w. map g (take i xs) ++ w ∷ []) (is ∙ ap g at) ∙ sym (map_more g xs i x h))
+
+pub fill-upto : {Y : Type 0} (g : ℕ → Y) (arr : List Y) (n i : ℕ) (z y : Y) → arr ≡ map g (upto i) ++ replicate (n - i) z → i < n → y ≡ g i
+    → set arr i y ≡ map g (upto (i + 1)) ++ replicate (n - (i + 1)) z
+fill-upto g arr n i z y e h is = fill-step arr (map g (upto i)) n i z y e (length-map (upto i) g ∙ length-upto i) h ∙ rw (is, map-upto g i) refl
+
+-- what holds of the first places, with one more
+pub set-each : (P : ℕ → ℕ → Type 0) (xs : List ℕ) (i y : ℕ) → i < length xs → P i y → (k : ℕ) → ((k ≢ i) → P k (get_or xs k 0)) → P k (get_or (set xs i y) k 0)
+set-each P xs i y h new k old =
+    elim (cases_eq k i) [
+      | inl same ↦ let e = get_or-set_same xs i y 0 h in rw (same, e) new
+      | inr other ↦ let e = get_or-set_other xs i k y 0 other in rw e (old other)
+    ]
+
+-- ---- marks
+
+-- one element of a list passes where it did, or where q holds
+pub any-set : (p : ℕ → Bool) (q : Bool) (xs : List ℕ) (i n y d : ℕ) → i < length xs → p y ≡ (p (get_or xs i d) || q)
+    → list_any p (take n (set xs i y)) ≡ (list_any p (take n xs) || (nat_lt i n && q))
+any-set p q [] i n y d h e = absurd (omega (arith, h))
+any-set p q (x ∷ xs) i zero y d h e = let f : nat_lt i 0 ≡ false = grind (arith, nat_tests) in rw f refl
+any-set p q (x ∷ xs) zero (suc n) y d h e = grind (arith, nat_tests, e)
+any-set p q (x ∷ xs) (suc i) (suc n) y d h e =
+    let f : nat_lt (suc i) (suc n) ≡ nat_lt i n = grind (arith, nat_tests) in
+    grind (arith, f, any-set p q xs i n y d (omega (arith, h)) e)
+
+lt-max : (x a b : ℕ) → nat_lt x (max a b) ≡ (nat_lt x a || nat_lt x b)
+lt-max x a b = grind (arith, nat_tests)
+
+-- one interval more
+pub mark-one : (xs : List ℕ) (low lo hi f place y d : ℕ) → place ≡ max lo low - low → y ≡ max (get_or xs place d) hi → place < length xs → low ≤ f
+    → list_any (nat_lt f) (take (f + 1 - low) (set xs place y)) ≡ (list_any (nat_lt f) (take (f + 1 - low) xs) || (nat_le lo f && nat_lt f hi))
+mark-one xs low lo hi f place y d e g h span =
+    let first : nat_lt place (f + 1 - low) ≡ nat_le lo f = grind (arith, nat_tests, e, span) in
+    any-set (nat_lt f) (nat_lt f hi) xs place (f + 1 - low) y d h (ap (nat_lt f) g ∙ lt-max f (get_or xs place d) hi)
+    ∙ ap (λ b. list_any (nat_lt f) (take (f + 1 - low) xs) || (b && nat_lt f hi)) first

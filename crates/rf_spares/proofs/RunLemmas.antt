@@ -1,116 +1,20 @@
 -- The runs of neighbours that pass a test.
-use Rattle.std.proofs.Common.{◌≡◌, add-zero, zero-add, get_or, length-append, take, ◌<◌, ◌≤◌, ◌+◌, ◌-◌, ◌++◌, ◌∙◌, ℕ, zero, suc, List, [], ◌∷◌, Bool, true, false, not, length, append-nil}
-use Rattle.std.proofs.Common.{append_assoc, inl, inr, subst, sym, ap, arith, refl}
-use Rattle.std.specs.Prelude.{◌==◌, codes, decimal, string_bytes, filter, slice_get, slice_index, Some}
+use Rattle.std.proofs.Common.{◌∙◌, ◌≡◌, zero-add, get_or, length-append, take, ◌<◌, ◌≤◌, ◌+◌, ◌-◌, ◌++◌, ℕ, List, [], ◌∷◌, Bool, not, length, append-nil, append_assoc, ap, arith, refl}
+use Rattle.std.specs.Prelude.{slice_get, Some, ◌==◌, codes, decimal, string_bytes, filter, String}
 use Rattle.std.specs.declared.alloc.Global.{Global}
-use Rattle.std.specs.Prelude.{String}
-use Rattle.std.proofs.lemmas.List.{take_more}
+use Rattle.std.proofs.lemmas.List.{flat_map_more, take_more}
+use Rattle.rf_base.proofs.ListLaws.{flat_same}
 use Rattle.std.proofs.lemmas.List.Concat.{flat_map-append}
-use Rattle.std.proofs.lemmas.List.Folds.{length-flat_map-take}
 use Rattle.std.proofs.lemmas.Option.{get_or_from_slice_get}
-use Rattle.std.proofs.lemmas.Bool.{and_parts}
-use Rattle.std.proofs.lemmas.List.FromFn.{length-range_with_len, get_or-range_with_len}
-use Rattle.std.proofs.lemmas.Bool.Decides.{nat_tests}
-use Rattle.std.specs.List.{flat_map, list_all, range_with_len, slice_split}
-use Rattle.std.proofs.lemmas.Bool.{cases_lt, false≢true}
-use Rattle.rf_profiles.specs.Channels.{IsChannels, channels}
+use Rattle.std.specs.List.{flat_map, range_with_len, slice_split}
+use Rattle.rf_profiles.specs.Channels.{channels}
 use Rattle.rf_profiles.specs.Range.{Span, frequencies}
-use Rattle.rf_spares.specs.Runs.{IsNextRun, flag_at}
-use Rattle.rf_spares.specs.Texts.{answer_text, blocks, is_among, khz_at, run_line, runs, runs_in, take_line}
+use Rattle.rf_spares.specs.Runs.{flag_at}
+use Rattle.rf_spares.specs.Texts.{answer_text, is_among, khz_at, run_line, runs_in, take_line}
 use Rattle.rf_spares.specs.declared.answer.Spares.{Spares}
 use Rattle.rf_base.specs.Lines.{line_of}
-
--- the numbers from a on, in two parts
-pub range_parts : (a m n s b : ℕ) → s ≡ m + n → b ≡ a + m → range_with_len a s ≡ range_with_len a m ++ range_with_len b n
-range_parts a zero n s b h k = let e : s ≡ n = omega arith in let f : b ≡ a = omega arith in rw (e, f) refl
-range_parts a (suc m) n zero b h k = absurd (omega arith)
-range_parts a (suc m) n (suc s) b h k = ap (λ more. a ∷ more) (range_parts (a + 1) m n s b (omega arith) (omega arith))
-
-list_all_range : (test : ℕ → Bool) (a n : ℕ) → ((k : ℕ) → a ≤ k → k < a + n → test k ≡ true) → list_all test (range_with_len a n) ≡ true
-list_all_range test a zero h = refl
-list_all_range test a (suc n) h =
-    let first : test a ≡ true = h a (omega arith) (omega arith) in
-    rw (first, list_all_range test (a + 1) n (λ k low high. h k (omega arith) (omega arith))) refl
-
-some : (n : ℕ) → (suc n == 0) ≡ false
-some n = grind (arith, nat_tests)
-
-module _ (test : ℕ → Bool) where
-  split_run : (xs : List ℕ) (y : ℕ) (ys : List ℕ) → list_all test xs ≡ true → test y ≡ false
-      → slice_split (λ k. not (test k)) (xs ++ y ∷ ys) ≡ xs ∷ slice_split (λ k. not (test k)) ys
-  split_run [] y ys h e = rw e refl
-  split_run (x ∷ xs) y ys h e = let p = and_parts (test x) (list_all test xs) h in rw (p.0, split_run xs y ys p.1 e) refl
-
-  split_all : (xs : List ℕ) → list_all test xs ≡ true → slice_split (λ k. not (test k)) xs ≡ xs ∷ []
-  split_all [] h = refl
-  split_all (x ∷ xs) h = let p = and_parts (test x) (list_all test xs) h in rw (p.0, split_all xs p.1) refl
-
-  -- what does not pass makes no run
-  runs_skip : (xs ys : List ℕ) → list_all (λ k. not (test k)) xs ≡ true → runs test (xs ++ ys) ≡ runs test ys
-  unfolding runs
-  runs_skip [] ys h = refl
-  runs_skip (x ∷ xs) ys h = let p = and_parts (not (test x)) (list_all (λ k. not (test k)) xs) h in rw p.0 (runs_skip xs ys p.1)
-
-  -- what passes, up to the end, is one run
-  runs_all : (x : ℕ) (xs : List ℕ) → list_all test (x ∷ xs) ≡ true → runs test (x ∷ xs) ≡ (x ∷ xs) ∷ runs test []
-  unfolding runs
-  runs_all x xs h = rw (split_all (x ∷ xs) h, some (length xs)) refl
-
-  -- or up to what does not pass
-  runs_take : (x : ℕ) (xs : List ℕ) (y : ℕ) (ys : List ℕ) → list_all test (x ∷ xs) ≡ true → test y ≡ false → runs test ((x ∷ xs) ++ y ∷ ys) ≡ (x ∷ xs) ∷ runs test (y ∷ ys)
-  unfolding runs
-  runs_take x xs y ys h e = rw (split_run (x ∷ xs) y ys h e, some (length xs), e) refl
-
-take_part : (test : ℕ → Bool) (a m b n : ℕ) → 0 < m → list_all test (range_with_len a m) ≡ true → (0 < n → test b ≡ false)
-    → runs test (range_with_len a m ++ range_with_len b n) ≡ range_with_len a m ∷ runs test (range_with_len b n)
-take_part test a zero b n some passes ends = absurd (omega arith)
-take_part test a (suc m) b zero some passes ends = rw append-nil (runs_all test a (range_with_len (a + 1) m) passes)
-take_part test a (suc m) b (suc n) some passes ends =
-    runs_take test a (range_with_len (a + 1) m) b (range_with_len (b + 1) n) passes (ends (omega arith))
-
--- where one passes and the other does not, they differ
-differ : (test : ℕ → Bool) (a b : ℕ) → test a ≡ true → test b ≡ false → a ≤ b → a < b
-differ test a b passes fails low = elim (cases_lt a b) [ inl less ↦ less | inr most ↦ let same : b ≡ a = omega arith in absurd (false≢true (sym (subst (λ k. test k ≡ false) same fails) ∙ passes)) ]
-
--- the ends of a run, and its length
-pub record RunEnds (first stop : ℕ) : Type 0 where
-  pub lowest : slice_index (range_with_len first (stop - first)) 0 ≡ first
-  pub highest : slice_index (range_with_len first (stop - first)) (length (range_with_len first (stop - first)) - 1) ≡ stop - 1
-  pub count : length (range_with_len first (stop - first)) ≡ stop - first
-
-pub run_ends : (first stop : ℕ) → first < stop → RunEnds first stop
-run_ends first stop h =
-    let long = length-range_with_len first (stop - first) in
-    let low = get_or-range_with_len first (stop - first) 0 0 (omega arith) in
-    let high = get_or-range_with_len first (stop - first) (stop - first - 1) 0 (omega arith) in
-    record { lowest = omega (arith, low); highest = rw long (omega (arith, high)); count = long }
-
-module _ (test : ℕ → Bool) (start end first : ℕ) (after : start ≤ first) (before : (k : ℕ) → start ≤ k → k < first → test k ≡ false) where
-  skipped : first ≤ end → runs test (range_with_len start (end - start)) ≡ runs test (range_with_len first (end - first))
-  skipped within =
-      let parts = range_parts start (first - start) (end - first) (end - start) first (omega arith) (omega arith) in
-      let none : list_all (λ k. not (test k)) (range_with_len start (first - start)) ≡ true =
-      list_all_range (λ k. not (test k)) start (first - start) (λ k low high. rw (before k low (omega arith)) refl) in
-      rw parts (runs_skip test (range_with_len start (first - start)) (range_with_len first (end - first)) none)
-
-  -- there is no run
-  pub no_run : first ≡ end → runs test (range_with_len start (end - start)) ≡ []
-  unfolding runs
-  no_run h = let none : end - first ≡ 0 = omega arith in skipped (omega arith) ∙ rw none refl
-
-  -- the first run
-  pub next_run : (stop : ℕ) → first < end → first ≤ stop → stop ≤ end → test first ≡ true
-      → ((k : ℕ) → first ≤ k → k < stop → test k ≡ true) → (stop < end → test stop ≡ false) → IsNextRun test start end first stop
-  next_run stop inside low high here passes ends =
-      let some : first < stop = elim (cases_lt stop end) [ inl less ↦ differ test first stop here (ends less) low | inr most ↦ omega arith ] in
-      let parts = range_parts first (stop - first) (end - stop) (end - first) stop (omega arith) (omega arith) in
-      let all : list_all test (range_with_len first (stop - first)) ≡ true = list_all_range test first (stop - first) (λ k l h. passes k l (omega arith)) in
-      record {
-        after = after;
-        some = some;
-        within = high;
-        is = skipped (omega arith) ∙ rw parts (take_part test first (stop - first) stop (end - stop) (omega arith) all (λ left. ends (omega arith)));
-      }
+use Rattle.rf_profiles.specs.Runs.{blocks, runs, IsNextRun}
+use Rattle.rf_profiles.proofs.RunLaws.{run_ends, blocks-push}
 
 pub khz_is : (ranges : List Span) (k khz : ℕ) → slice_get (channels ranges) k ≡ Some khz → khz_at ranges k ≡ khz
 khz_is ranges k khz e = get_or_from_slice_get (channels ranges) k khz 0 e
@@ -142,27 +46,10 @@ written_more ranges test old start end text more next first stop w n e =
 
 -- ---- the ranges of a profile
 
-blocks-push : (from : ℕ) (ranges : List Span) (range : Span)
-    → blocks from (ranges ++ range ∷ []) ≡ blocks from ranges ++ range_with_len (from + length (channels ranges)) (length (frequencies range)) ∷ []
-blocks-push from [] range = rw add-zero refl
-blocks-push from (r ∷ ranges) range =
-    let long = length-append (frequencies r) (channels ranges) in
-    let sum : from + length (channels (r ∷ ranges)) ≡ from + length (frequencies r) + length (channels ranges) = omega (arith, long) in
-    rw sum (ap (λ more. range_with_len from (length (frequencies r)) ∷ more) (blocks-push (from + length (frequencies r)) ranges range))
-
 -- What is written of the first ranges of a profile, where the channels of the next begin at `next`.
 pub record RangesWritten (all : List Span) (test : ℕ → Bool) (old : String Global) (ranges : List Span) (index : ℕ) (text : String Global) (next : ℕ) : Type 0 where
   pub begins : next ≡ length (channels (take index ranges))
   pub lines : string_bytes text ≡ string_bytes old ++ flat_map (run_line all) (flat_map (runs test) (blocks 0 (take index ranges)))
-
--- the channels of the next range are among all
-pub range_within : (ranges : List Span) (index : ℕ) (range : Span) → index < length ranges → range ≡ get_or ranges index range
-    → length (channels (take index ranges)) + length (frequencies range) ≤ length (channels ranges)
-range_within ranges index range h e = let fits = length-flat_map-take frequencies ranges index range h in rw (← e) at fits
-
--- a profile's channels are no more than there may be
-pub all_channels : (ranges those : List Span) → ranges ≡ those → IsChannels those → length (channels ranges) ≤ 65536
-all_channels ranges those e h = rw e h.many
 
 -- one range more is written
 pub ranges_more : (all : List Span) (test : ℕ → Bool) (old : String Global) (ranges : List Span) (index : ℕ) (text more : String Global) (next : ℕ) (range : Span)
@@ -189,24 +76,13 @@ runs_same : (p q : ℕ → Bool) (ks : List ℕ) → ((k : ℕ) → p k ≡ q k)
 unfolding runs
 runs_same p q ks h = ap (filter (λ run. not (length run == 0))) (splits_same p q ks h)
 
-blocks_same : (p q : ℕ → Bool) (bs : List (List ℕ)) → ((k : ℕ) → p k ≡ q k) → flat_map (runs p) bs ≡ flat_map (runs q) bs
-blocks_same p q [] h = refl
-blocks_same p q (b ∷ bs) h = rw (runs_same p q b h, blocks_same p q bs h) refl
-
 pub runs_in_same : (p q : ℕ → Bool) (ranges : List Span) → ((k : ℕ) → p k ≡ q k) → runs_in p ranges ≡ runs_in q ranges
-runs_in_same p q ranges h = blocks_same p q (blocks 0 ranges) h
+runs_in_same p q ranges h = flat_same (runs p) (runs q) (blocks 0 ranges) (λ ks. runs_same p q ks h)
 
 -- one channel more that is taken is written
 pub takes_more : (ranges : List Span) (ks : List ℕ) (index khz : ℕ) (old text more : List ℕ) → text ≡ old ++ flat_map (take_line ranges) (take index ks) → index < length ks
     → khz_at ranges (get_or ks index 0) ≡ khz → more ≡ text ++ line_of (codes "take" ∷ decimal khz ∷ []) → more ≡ old ++ flat_map (take_line ranges) (take (index + 1) ks)
-takes_more ranges ks index khz old text more before low at e =
-    let k = get_or ks index 0 in
-    e ∙ ap (λ zs. zs ++ line_of (codes "take" ∷ decimal khz ∷ [])) before
-    ∙ append_assoc old (flat_map (take_line ranges) (take index ks)) (line_of (codes "take" ∷ decimal khz ∷ []))
-    ∙ ap (λ f. old ++ (flat_map (take_line ranges) (take index ks) ++ line_of (codes "take" ∷ decimal f ∷ []))) (sym at)
-    ∙ ap (λ zs. old ++ (flat_map (take_line ranges) (take index ks) ++ zs)) (sym (append-nil (take_line ranges k)))
-    ∙ ap (λ zs. old ++ zs) (sym (flat_map-append (take_line ranges) (take index ks) (k ∷ [])))
-    ∙ ap (λ zs. old ++ flat_map (take_line ranges) zs) (sym (take_more ks index 0 low))
+takes_more ranges ks index khz old text more before low at e = rw (e, before, take_more ks index 0 low, ← at) (flat_map_more (take_line ranges) old (take index ks) (get_or ks index 0))
 
 -- all that is written, one part after the other
 pub answer_is : (ranges : List Span) (answer : Spares) (flags : List Bool) (start first second third all : List ℕ) → ((k : ℕ) → flag_at flags k ≡ is_among answer.free k)
@@ -214,13 +90,8 @@ pub answer_is : (ranges : List Span) (answer : Spares) (flags : List Bool) (star
     → third ≡ second ++ flat_map (take_line ranges) answer.taken → all ≡ third ++ (codes "taken " ++ (decimal (length answer.taken) ++ 10 ∷ []))
     → all ≡ answer_text ranges answer
 answer_is ranges answer flags start first second third all same a b c d e =
+    let runs = runs_in_same (flag_at flags) (is_among answer.free) ranges same in
     let free = flat_map (run_line ranges) (runs_in (is_among answer.free) ranges) in
-    let many = line_of (codes "channels" ∷ decimal (length answer.free) ∷ []) in
+    let many = codes "channels " ++ (decimal (length answer.free) ++ 10 ∷ []) in
     let taken = flat_map (take_line ranges) answer.taken in
-    let number = line_of (codes "taken" ∷ decimal (length answer.taken) ∷ []) in
-    let runs : first ≡ free = b ∙ ap (λ zs. zs ++ flat_map (run_line ranges) (runs_in (flag_at flags) ranges)) a
-    ∙ ap (flat_map (run_line ranges)) (runs_in_same (flag_at flags) (is_among answer.free) ranges same) in
-    let counted : second ≡ first ++ many = c ∙ ap (λ zs. first ++ (codes "channels " ++ (zs ++ 10 ∷ []))) (sym (append-nil (decimal (length answer.free)))) in
-    let ended : all ≡ third ++ number = e ∙ ap (λ zs. third ++ (codes "taken " ++ (zs ++ 10 ∷ []))) (sym (append-nil (decimal (length answer.taken)))) in
-    ended ∙ ap (λ zs. zs ++ number) (d ∙ ap (λ zs. zs ++ taken) (counted ∙ ap (λ zs. zs ++ many) runs))
-    ∙ append_assoc (free ++ many) taken number ∙ append_assoc free many (taken ++ number)
+    rw (e, d, c, b, a, runs, append-nil (decimal (length answer.free)), append-nil (decimal (length answer.taken))) (append_assoc (free ++ many) taken _ ∙ append_assoc free many _)

@@ -1,24 +1,15 @@
 -- The reply to `spares`.
-use Rattle.std.specs.Prelude.{◌<◌, ℕ, Bool, List, [], ◌∷◌, ◌++◌, ◌+◌, ◌-◌, ◌==◌, All, not, length, filter, slice_get, slice_index, codes, decimal}
-use Rattle.std.specs.List.{flat_map, list_any, range_with_len, slice_split}
+use Rattle.std.specs.Prelude.{◌<◌, ℕ, Bool, List, [], ◌∷◌, ◌++◌, ◌-◌, ◌==◌, All, length, slice_get, slice_index, codes, decimal}
+use Rattle.std.specs.List.{flat_map, list_any}
 use Rattle.std.specs.Option.{option_map_or}
 use Rattle.rf_base.specs.Lines.{line_of}
 use Rattle.rf_profiles.specs.Channels.{channels}
-use Rattle.rf_profiles.specs.Range.{Span, frequencies}
+use Rattle.rf_profiles.specs.Range.{Span}
 use Rattle.rf_show.specs.Show.{ShowData}
 use Rattle.rf_spares.specs.Newcomers.{channels_at}
 use Rattle.rf_spares.specs.Spare.{chosen, spare_channels}
 use Rattle.rf_spares.specs.declared.answer.Spares.{Spares}
-
--- the numbers of the channels of each range, where those of the first begin at `from`
-abbrev pub blocks : ℕ → List Span → List (List ℕ)
-blocks from [] = []
-blocks from (range ∷ ranges) =
-    range_with_len from (length (frequencies range)) ∷ blocks (from + length (frequencies range)) ranges
-
--- the longest runs of neighbours that pass
-unfoldable pub runs : (ℕ → Bool) → List ℕ → List (List ℕ)
-runs test ks = filter (λ run. not (length run == 0)) (slice_split (λ k. not (test k)) ks)
+use Rattle.rf_profiles.specs.Runs.{blocks, runs}
 
 -- the channels that pass and follow each other within one range
 abbrev pub runs_in : (ℕ → Bool) → List Span → List (List ℕ)

@@ -4,7 +4,8 @@ ghost use Rattle.std.specs.Prelude.{◌≡◌, ◌<◌, ◌≤◌, ◌-◌, ◌+
 ghost use Rattle.std.specs.List.{flat_map, range_with_len};
 ghost use Rattle.rf_base.specs.Lines.{line_of};
 ghost use Rattle.rf_spares.specs.Newcomers.{channels_at};
-ghost use Rattle.rf_spares.specs.Runs.{IsNextRun, flag_at};
+ghost use Rattle.rf_spares.specs.Runs.{flag_at};
+ghost use Rattle.rf_profiles.specs.Runs.{IsNextRun, runs};
 ghost use Rattle.rf_spares.specs.Texts as spec;
 ghost use Rattle.rf_spares.specs.Texts.{IsListed, is_among};
 
@@ -83,7 +84,7 @@ fn write_runs(
     requires order { start ≤ end }
     requires within { end ≤ length flags.now }
     ensures { OnOk result (string_bytes text.new ≡ string_bytes text.old
-        ++ flat_map (spec.run_line channels.now) (spec.runs (flag_at flags.now) (range_with_len start (end - start)))) }
+        ++ flat_map (spec.run_line channels.now) (runs (flag_at flags.now) (range_with_len start (end - start)))) }
 {
     let mut next = start;
     while let Some((first, stop)) = next_run(flags, next, end) {
@@ -115,7 +116,7 @@ fn write_numbers(text: &mut String, lowest: u32, highest: u32, count: u32) -> Re
 fn next_run(flags: &[bool], start: u32, end: u32) -> Option<(u32, u32)>
     requires order { start ≤ end }
     requires within { end ≤ length flags.now }
-    ensures { MatchOption result (spec.runs (flag_at flags.now) (range_with_len start (end - start)) ≡ [])
+    ensures { MatchOption result (runs (flag_at flags.now) (range_with_len start (end - start)) ≡ [])
         (λ run. IsNextRun (flag_at flags.now) start end run.0 run.1) }
 {
     let first = first_that(flags, true, start, end);

@@ -1,9 +1,9 @@
 -- Shows in which carriers are alike agree on them.
 use Rattle.std.proofs.Common.{◌≡◌, ◌≤◌, ◌<◌, ℕ, suc, zero, Bool, true, false, List, [], ◌∷◌, map, length, get_or, refl, ap, sym, ◌∙◌, arith}
-use Rattle.std.specs.Prelude.{Option, Some, None, ◌&&◌, ◌||◌, nat_lt, is_some, slice_get, find, unwrap_or}
+use Rattle.std.specs.Prelude.{Option, Some, None, ◌&&◌, nat_lt, is_some, slice_get, find, unwrap_or}
 use Rattle.std.specs.List.{list_all, position}
 use Rattle.std.specs.Option.{option_and_then, option_map_or}
-use Rattle.std.proofs.lemmas.Bool.{true≢false}
+use Rattle.std.proofs.lemmas.Bool.{or_parts}
 use Rattle.std.proofs.lemmas.Bool.Decides.{nat_tests}
 use Rattle.std.proofs.lemmas.Option.{slice_get_past}
 use Rattle.std.proofs.lemmas.List.Quantifiers.{position-Some}
@@ -14,17 +14,14 @@ use Rattle.rf_zones.specs.Couplings.{joins}
 use Rattle.rf_zones.specs.Masks.{has_bit}
 use Rattle.rf_zones.specs.Times.{is_on}
 use Rattle.rf_zones.specs.Zones.{ZonesData, coupling_of}
-use Rattle.rf_zones.specs.Slices.{on_at, share_minute, some_below}
+use Rattle.rf_zones.specs.Slices.{on_at, share_minute}
 use Rattle.rf_show.specs.declared.carrier.Carrier.{Carrier}
 use Rattle.rf_show.specs.Show.{ShowData, is_profile, zone_number}
 use Rattle.rf_show.specs.Query.{all_meet, are_joined, asked, meet, meet_at}
 use Rattle.rf_rules.specs.Touched.{meets}
 use Rattle.rf_rules.specs.Renewed.{Agrees}
 use Rattle.rf_table.specs.Unchanged.{AreAlike, SameAt, SameZones, Unchanged}
-
-or-parts : (a b : Bool) → (a || b) ≡ false → (a ≡ false) × (b ≡ false)
-or-parts true b h = absurd (true≢false h)
-or-parts false b h = (refl, h)
+use Rattle.rf_zones.proofs.SliceLaws.{some_same}
 
 -- ---- zones
 
@@ -122,22 +119,17 @@ on-same minute (Some a) (Some b) h = ap (λ ts. is_on ts minute) h.times
 on-same minute None (Some b) h = absurd h
 on-same minute (Some a) None h = absurd h
 
-some-same : (n : ℕ) (p q : ℕ → Bool) → ((m : ℕ) → p m ≡ q m) → some_below n p ≡ some_below n q
-unfolding some_below
-some-same zero p q h = refl
-some-same (suc n) p q h = ap (λ b. b || p n) (some-same n p q h) ∙ ap (λ b. some_below n q || b) (h n)
-
 all-out : (mask : ℕ) (p q : ℕ → Bool) (t : List ℕ) → meets mask t ≡ false → ((c : ℕ) → has_bit mask c ≡ false → p c ≡ q c) → list_all p t ≡ list_all q t
 all-out mask p q [] h k = refl
 all-out mask p q (c ∷ t) h k =
-    let o = or-parts (has_bit mask c) (meets mask t) h in
+    let o = or_parts (has_bit mask c) (meets mask t) h in
     ap (λ b. b && list_all p t) (k c o.0) ∙ ap (λ b. q c && b) (all-out mask p q t o.1 k)
 
 minute-same : (mask : ℕ) (old new : ShowData) (t : List ℕ) → Unchanged mask old new → meets mask t ≡ false
     → share_minute (map (λ x. x.times) old.carriers) t ≡ share_minute (map (λ x. x.times) new.carriers) t
 unfolding share_minute
 minute-same mask old new t u h =
-    some-same 10080 (λ minute. list_all (on_at (map (λ x. x.times) old.carriers) minute) t) (λ minute. list_all (on_at (map (λ x. x.times) new.carriers) minute) t)
+    some_same 10080 (λ minute. list_all (on_at (map (λ x. x.times) old.carriers) minute) t) (λ minute. list_all (on_at (map (λ x. x.times) new.carriers) minute) t)
     (λ minute. all-out mask (on_at (map (λ x. x.times) old.carriers) minute) (on_at (map (λ x. x.times) new.carriers) minute) t h
     (λ c o. on-get old.carriers minute c ∙ on-same minute (slice_get old.carriers c) (slice_get new.carriers c) (u.same c o).alike ∙ sym (on-get new.carriers minute c)))
 

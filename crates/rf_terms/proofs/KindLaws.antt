@@ -1,6 +1,5 @@
 -- The laws of the rule table: each is a test of its rows, or one line a row.
-use Rattle.std.proofs.Common.{◌≡◌, ◌≤◌, ◌++◌, ℤ, unsigned_abs, List, arith, refl}
-use Rattle.std.specs.Prelude.{Bool, true, false, nat_le, nat_lt, ◌&&◌, Contains, Some}
+use Rattle.std.proofs.Common.{◌≡◌, ◌≤◌, ◌++◌, ℤ, unsigned_abs, List, arith, refl, Bool, true, false, nat_le, nat_lt, ◌&&◌, Contains, Some}
 use Rattle.std.specs.List.{list_all}
 use Rattle.std.proofs.lemmas.List.Sums.{AllPass-from_list_all}
 use Rattle.std.proofs.lemmas.Bool.Decides.{nat_tests}

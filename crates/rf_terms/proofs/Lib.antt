@@ -1,3 +1,3 @@
-pub mod FormLemmas
-pub mod WindowLemmas
+pub mod FormLaws
 pub mod KindLaws
+mod WindowLemmas

@@ -2,7 +2,7 @@
 use Rattle.std.proofs.Common.{◌≡◌, ◌<◌, ◌≤◌, ◌↔◌, ◌*◌, ◌/◌, ℕ, ℤ, pos, negsuc, ◌+ℤ◌, ◌-ℤ◌, ◌*ℤ◌, ◌≤ℤ◌, ◌<ℤ◌, neg_ℤ, unsigned_abs, arith, ap, ◌∙◌, suc, ◌^◌, to_z, of_z, w64}
 use Rattle.std.specs.Prelude.{Option, Some, None}
 use Rattle.rf_terms.specs.Windows.{IsWindow}
-use Rattle.rf_terms.proofs.FormLemmas.{told}
+use Rattle.rf_terms.proofs.FormLaws.{told}
 use Rattle.std.proofs.lemmas.Int.{ints, by_lt_z}
 use Rattle.std.proofs.lemmas.Nat.{div_below, le-div, mod_below, div-add-mod'}
 use Rattle.std.proofs.Math.Nat.{mul-div-le, mul-le-mul_left}

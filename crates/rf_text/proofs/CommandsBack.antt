@@ -1,10 +1,9 @@
 -- The line of a command is read back as the command.
-use Rattle.std.proofs.Common.{◌≡◌, ◌≤◌, ◌+◌, ◌++◌, ℕ, List, [], ◌∷◌, Bool, true, false, length, length-append, arith, refl, rules, Some, None, Ok, subst}
-use Rattle.std.specs.Prelude.{IfSome, find, nat_le, if◌then◌else◌, option_and_then, option_map, ok_or}
+use Rattle.std.proofs.Common.{◌≡◌, ◌≤◌, ◌+◌, ◌++◌, ℕ, List, [], ◌∷◌, Bool, true, length, length-append, append-nil, arith, refl, rules, Some, None, Ok, inl, inr, subst}
+use Rattle.std.specs.Prelude.{IfSome, find, nat_le, option_map, ok_or}
 use Rattle.std.specs.declared.option.Option.{Option}
-use Rattle.std.proofs.lemmas.Bool.Decides.{nat_tests}
 use Rattle.std.proofs.lemmas.Option.{IfSome_then}
-use Rattle.std.specs.List.{AllByRecursion, list_all}
+use Rattle.std.specs.List.{AllByRecursion, list_all, slice_split}
 use Rattle.std.specs.Str.{bytes_eq}
 use Rattle.rf_base.specs.Lines.{joined, spaced}
 use Rattle.rf_show.specs.After.{is_edit}
@@ -14,17 +13,15 @@ use Rattle.rf_text.specs.declared.command.UnknownLine.{UnknownLine}
 use Rattle.rf_text.specs.Commands.{command_by, command_in, command_of, command_rows, command_with, edit_rows, edit_by, with_row, IsAskable}
 use Rattle.rf_text.specs.CommandTexts.{command_text_of, command_words}
 use Rattle.rf_text.specs.Shapes.{Row, Values, made, row_of, row_read, values}
-use Rattle.rf_text.specs.Words.{is_word}
-use Rattle.rf_text.specs.Words.{words_of as words_in}
-use Rattle.rf_text.proofs.OperandsBack.{if_map}
+use Rattle.rf_text.specs.Words.{is_word, words_of as words_in}
 use Rattle.rf_text.proofs.RoomLemmas.{room, values_room}
 use Rattle.rf_text.proofs.ShapesBack.{AreValues, values_back, values_read, words_of}
-use Rattle.rf_text.proofs.WordsBack.{words_back}
+use Rattle.rf_base.specs.Words.{is_space}
+use Rattle.rf_base.proofs.WordLaws.{split_last, split_word}
+use Rattle.std.proofs.lemmas.Bool.{cases_Bool, leb-true}
+use Rattle.rf_base.proofs.OptionLaws.{if_any, if_found, if_map}
 
 -- ---- rows
-
-le_of : (a b : ℕ) → nat_le a b ≡ true → a ≤ b
-le_of a b h = grind (arith, nat_tests)
 
 made_back : {Made : Type 0} (row : Row Made) (w : Values row.shape) → AreValues row.shape w → row_read row (words_of row.shape w) ≡ Some (made row w)
 made_back row w h = let back = values_back row.shape w h in rw back.read refl
@@ -32,14 +29,12 @@ made_back row w h = let back = values_back row.shape w h in rw back.read refl
 if_row : {Made : Type 0} (P : Made → Type 0) (row : Row Made) → ((w : Values row.shape) → AreValues row.shape w → P (made row w)) → (words : List (List ℕ)) → IfSome (row_read row words) P
 if_row P row each words = if_map (made row) P (values row.shape words) (IfSome_then (values row.shape words) (values_read row.shape words) each)
 
-found_if : {A : Type 0} (P : A → Type 0) (test : Bool) (x : A) (o : Option A) → P x → IfSome o P → IfSome (if test then Some x else o) P
-found_if P true x o h k = h
-found_if P false x o h k = k
-
 -- what holds of each row holds of the row of a word
 found : {A : Type 0} (P : A → Type 0) (test : A → Bool) (xs : List A) → AllByRecursion P xs → IfSome (find test xs) P
 found P test [] h = tt
-found P test (x ∷ xs) h = found_if P (test x) x (find test xs) h.0 (found P test xs h.1)
+found P test (x ∷ xs) h =
+    let more = found P test xs h.1 in
+    elim (cases_Bool (test x)) [ inl on ↦ rw on h.0 | inr off ↦ rw off more ]
 
 all_then : {A : Type 0} (P Q : A → Type 0) (xs : List A) → ((x : A) → P x → Q x) → AllByRecursion P xs → AllByRecursion Q xs
 all_then P Q [] f h = tt
@@ -76,12 +71,6 @@ pub record IsBack (command : Command) : Type 0 where
 abbrev Makes : {Made : Type 0} → (Command → Type 0) → (Made → Command) → Row Made → Type 0
 Makes P command row = (w : Values row.shape) → AreValues row.shape w → P (command (made row w))
 
-verb_fits : (verb operands : List ℕ) (most : ℕ) → length operands ≤ most → nat_le (length verb + most) 4096 ≡ true → length (verb ++ operands) ≤ 4096
-verb_fits verb operands most h few =
-    let long = length-append verb operands in
-    let within : length verb + most ≤ 4096 = le_of (length verb + most) 4096 few in
-    omega (arith, long)
-
 line_back : {Made : Type 0} (command : Made → Command) (read : Option Made → Option Command) → ((x : Made) → read (Some x) ≡ Some (command x))
     → (row : Row Made) → IsLine command read row → Makes IsBack command row
 line_back command read same row line w h =
@@ -90,7 +79,7 @@ line_back command read same row line w h =
     record {
       read = rw (words, line.0 (words_of row.shape w), made_back row w h) (same (made row w));
       valid = rw (words, line.1.0, back.valid) refl;
-      fits = rw words (verb_fits row.verb (spaced (words_of row.shape w)) (room row.shape) (values_room row.shape w h) line.1.1.1.1);
+      fits = rw words (omega (arith, length-append row.verb (spaced (words_of row.shape w)), values_room row.shape w h, leb-true _ 4096 line.1.1.1.1));
     }
 
 edits_back : AllByRecursion (Makes IsBack Change) edit_rows
@@ -105,14 +94,6 @@ edit_back verb = found (Makes IsBack Change) (λ row. bytes_eq verb row.verb) ed
 
 pub command_row_back : (verb : List ℕ) → IfSome (row_of command_rows verb) (Makes IsBack (λ command. command))
 command_row_back verb = found (Makes IsBack (λ command. command)) (λ row. bytes_eq verb row.verb) command_rows commands_back
-
-if_any : {A B : Type 0} (next : A → Option B) (Q : B → Type 0) (o : Option A) → ((x : A) → IfSome (next x) Q) → IfSome (option_and_then next o) Q
-if_any next Q None k = tt
-if_any next Q (Some x) k = k x
-
-if_found : {A B : Type 0} (next : A → Option B) (P : A → Type 0) (Q : B → Type 0) (o : Option A) → IfSome o P → ((x : A) → P x → IfSome (next x) Q) → IfSome (option_and_then next o) Q
-if_found next P Q None h k = tt
-if_found next P Q (Some x) h k = k x h
 
 -- what holds of the command of each row holds of that of each line
 module _ (P : Command → Type 0) (of_edits : AllByRecursion (Makes P Change) edit_rows) (of_commands : AllByRecursion (Makes P (λ command. command)) command_rows) where
@@ -145,18 +126,23 @@ line_askable line command is =
     (all_then (IsLine (λ command. command) (λ read. read)) (Makes IsAskable (λ command. command)) command_rows (λ row line w _. askable (made row w) (line.1.1.1.0 w)) commands) line in
     rw (← is) at all
 
+split_words : (word : List ℕ) (words : List (List ℕ)) → list_all is_word (word ∷ words) ≡ true → slice_split is_space (word ++ spaced words) ≡ word ∷ words
+split_words word [] h = rw append-nil (split_last word (search rules))
+split_words word (next ∷ words) h = rw (split_word word (next ++ spaced words) (search rules), split_words next words (search rules)) refl
+
+-- words that are joined are read back as they were
+pub line_in : (words : List (List ℕ)) (command : Command) → list_all is_word words ≡ true → command_with words ≡ Some command → command_in (joined words) ≡ Some command
+unfolding words_in
+line_in [] command valid read = cc
+line_in (word ∷ words) command valid read = rw (split_words word words valid, valid, read) refl
+
 from_ok : (P : Command → Type 0) (o : Option Command) (e : UnknownLine) (command : Command) → IfSome o P → ok_or o e ≡ Ok command → P command
 from_ok P None e command h is = cc
 from_ok P (Some c) e command h is = let same : c ≡ command = cc in subst P same h
-
-joined_back : (words : List (List ℕ)) (command : Command) → list_all is_word words ≡ true → command_with words ≡ Some command → command_of (joined words) ≡ Ok command
-unfolding command_of
-joined_back [] command valid read = cc
-joined_back (word ∷ words) command valid read = rw (words_back word words valid, read) refl
 
 -- a command that some line has is read back from its line
 pub command_back : (command : Command) (line : List ℕ) → command_of line ≡ Ok command → command_of (command_text_of command) ≡ Ok command
 unfolding command_of
 command_back command line is =
     let back = from_ok IsBack (command_in line) _ command (of_line IsBack edits_back commands_back line) is in
-    joined_back (command_words command) command back.valid back.read
+    rw (line_in (command_words command) command back.valid back.read) refl

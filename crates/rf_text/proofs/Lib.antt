@@ -1,21 +1,18 @@
-pub mod CarriersMade
-pub mod CommandsBack
-pub mod DecimalsBack
-pub mod LineLemmas
-pub mod LinesRead
-pub mod MadeLemmas
-pub mod OperandLemmas
-pub mod OperandsBack
-pub mod PlaceLemmas
-pub mod ProfilesMade
-pub mod RoomLemmas
-pub mod RunLemmas
-pub mod SeparatorsBack
-pub mod ShapesBack
-pub mod ShowLemmas
-pub mod ShowMade
-pub mod TextLines
-pub mod TextualLemmas
-pub mod WordLemmas
-pub mod WordsBack
-pub mod ZonesMade
+mod CommandsBack
+mod DecimalsBack
+mod LineLemmas
+mod LinesRead
+mod MadeLemmas
+mod OperandLemmas
+mod OperandsBack
+mod PartsMade
+mod PlaceLemmas
+mod RoomLemmas
+mod RunLemmas
+mod ShapesBack
+mod ShowLemmas
+mod ShowMade
+mod TextLines
+mod TextualLemmas
+mod WordLemmas
+mod ZonesMade

@@ -1,7 +1,6 @@
 -- The digits after the point, one after another.
-use Rattle.std.proofs.Common.{◌≡◌, ◌≢◌, ◌≤◌, ◌<◌, ◌+◌, ◌-◌, ◌++◌, ℕ, zero, suc, List, [], ◌∷◌, append-nil, append_assoc, arith, lit<, refl, subst}
-use Rattle.std.specs.Prelude.{◌^◌, ◌/◌, ◌%◌, ◌==◌, decimal, false}
-use Rattle.std.proofs.Math.Nat.{div-lt_iff_lt-mul, one-le-pow, pow-le-pow_right, pow-suc}
+use Rattle.std.proofs.Common.{◌≡◌, ◌≢◌, ◌≤◌, ◌<◌, ◌+◌, ◌-◌, ◌++◌, ℕ, zero, suc, List, [], ◌∷◌, append-nil, append_assoc, arith, lit<, refl, subst, ◌^◌, ◌/◌, ◌%◌, ◌==◌, decimal, false}
+use Rattle.std.proofs.Math.Nat.{div-lt_iff_lt-mul, one-le-pow, pow-suc}
 use Rattle.std.proofs.lemmas.Bool.Decides.{nat_tests}
 use Rattle.std.proofs.lemmas.Fmt.{decimal_digit}
 use Rattle.rf_text.specs.Decimals.{places}
@@ -52,5 +51,4 @@ places_ended old text fraction place rest w e = let is = w.is in rw (e, places_n
 pub places_full : (old text : List ℕ) (fraction place rest : ℕ) → PlacesWritten old text fraction place rest → 9 ≤ place → text ≡ old ++ places 9 fraction
 places_full old text fraction place rest w h =
     let none : 9 - place ≡ 0 = omega arith in
-    let small : rest < 10 ^ 0 = subst (λ k. rest < 10 ^ k) none w.small in
-    places_ended old text fraction place rest w (omega (arith, small))
+    places_ended old text fraction place rest w (omega (arith, subst (λ k. rest < 10 ^ k) none w.small))

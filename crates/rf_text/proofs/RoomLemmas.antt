@@ -1,35 +1,33 @@
 -- How long the line of a command is at most.
-use Rattle.std.proofs.Common.{◌≡◌, ◌≤◌, ◌+◌, ◌*◌, ℕ, zero, suc, List, [], ◌∷◌, Bool, true, false, length, length-append, map, take, arith, refl, Some, None}
-use Rattle.std.specs.Prelude.{◌^◌, ◌/◌, ◌%◌, ◌==◌, ℤ, pos, negsuc, nat_abs, decimal, slice_index, if◌then◌else◌}
+use Rattle.std.proofs.Common.{◌≤◌, ◌+◌, ◌*◌, ℕ, zero, suc, List, [], ◌∷◌, Bool, true, false, length, length-append, map, take, arith, inl, inr, Some, None, ◌^◌, ◌/◌, ◌%◌, ◌==◌, ℤ, pos}
+use Rattle.std.proofs.Common.{negsuc, nat_abs, decimal, slice_index, if◌then◌else◌, length-take}
+use Rattle.std.proofs.lemmas.Bool.{cases_Bool}
 use Rattle.std.proofs.lemmas.Bool.Decides.{nat_tests}
 use Rattle.std.proofs.lemmas.Fmt.{length-decimal-le}
-use Rattle.std.proofs.lemmas.List.{length-take}
 use Rattle.rf_base.specs.Lines.{spaced}
 use Rattle.rf_base.specs.declared.decimal.Decimal.{Decimal}
 use Rattle.rf_exclusions.specs.declared.scan_set.Sep.TheVariants.{Comma, Semicolon, Tab}
 use Rattle.rf_text.specs.Decimals.{billionths_text, decimal_text, fraction_text, places, sign_text}
 use Rattle.rf_text.specs.Operands.{fewest_numbers}
 use Rattle.rf_text.specs.Shapes.{Operand, a_decimal, a_file, a_name, a_number, a_separator, Value, Shape, nothing, last, perhaps, numbers, ◌and◌, Values}
-use Rattle.rf_text.proofs.ShapesBack.{AreNumbers, AreShort, AreValues, IsFiled, IsNamed, IsShort, IsSmall, IsValue, word_of, words_of}
+use Rattle.rf_text.proofs.ShapesBack.{AreNumbers, AreShort, AreValues, IsShort, IsSmall, IsValue, all_take, word_of, words_of}
 
 -- ---- words
 
 number_room : (n : ℕ) → IsShort n → length (decimal n) ≤ 9
 number_room n h = length-decimal-le 9 n (omega arith) h (omega arith)
 
-next_places : (n f : ℕ) (none : Bool) → (f == 0) ≡ none → length (places n (f % 10 ^ n)) ≤ n → length (places (suc n) f) ≤ suc n
-unfolding places
-next_places n f true is h = rw is (omega arith)
-next_places n f false is h = rw is (omega arith)
-
 places_room : (n f : ℕ) → length (places n f) ≤ n
 unfolding places
 places_room zero f = omega arith
-places_room (suc n) f = next_places n f (f == 0) refl (places_room n (f % 10 ^ n))
+places_room (suc n) f =
+    let few = places_room n (f % 10 ^ n) in
+    elim (cases_Bool (f == 0)) [ inl none ↦ rw none (omega arith) | inr some ↦ rw some (omega arith) ]
 
-fraction_room : (f : ℕ) (none : Bool) → (f == 0) ≡ none → length (fraction_text f) ≤ 10
-fraction_room f true is = rw is (omega arith)
-fraction_room f false is = let few = places_room 9 f in rw is (omega arith)
+fraction_room : (f : ℕ) → length (fraction_text f) ≤ 10
+fraction_room f =
+    let few = places_room 9 f in
+    elim (cases_Bool (f == 0)) [ inl none ↦ rw none (omega arith) | inr some ↦ rw some (omega arith) ]
 
 sign_room : (z : ℤ) → length (sign_text z) ≤ 1
 sign_room (pos n) = omega arith
@@ -40,21 +38,15 @@ unfolding decimal_text
 decimal_room n h =
     let m = nat_abs n.0 in
     let small : IsShort (m / 1_000_000_000) = omega arith in
-    let fraction = fraction_room (m % 1_000_000_000) (m % 1_000_000_000 == 0) refl in
+    let fraction = fraction_room (m % 1_000_000_000) in
     let whole = number_room (m / 1_000_000_000) small in
     let long = length-append (decimal (m / 1_000_000_000)) (fraction_text (m % 1_000_000_000)) in
     omega (arith, length-append (sign_text n.0) (billionths_text m), sign_room n.0)
 
-name_room : (name : List ℕ) → IsNamed name → length name ≤ 255
-name_room name h = grind (arith, nat_tests)
-
-file_room : (file : List ℕ) → IsFiled file → length file ≤ 255
-file_room file h = grind (arith, nat_tests)
-
 -- no word is longer than the name of a file
 word_room : (operand : Operand) (x : Value operand) → IsValue operand x → length (word_of operand x) ≤ 255
-word_room a_name x h = name_room x h
-word_room a_file x h = file_room x h
+word_room a_name x h = grind (arith, nat_tests)
+word_room a_file x h = grind (arith, nat_tests)
 word_room a_number x h = let few = number_room x h in omega arith
 word_room a_decimal x h = let few = decimal_room x h in omega arith
 word_room a_separator Comma h = omega arith
@@ -70,13 +62,8 @@ spaced_numbers (n ∷ ns) h =
     let more = spaced_numbers ns h.1 in
     omega (arith, length-append (decimal n) (spaced (map decimal ns)))
 
-short_front : (n : ℕ) (ns : List ℕ) → AreShort ns → AreShort (take n ns)
-short_front zero ns h = tt
-short_front (suc n) [] h = tt
-short_front (suc n) (x ∷ ns) h = (h.0, short_front n ns h.1)
-
 cut_room : (cut : Bool) (ns : List ℕ) → AreNumbers ns → length (spaced (map decimal (if cut then take fewest_numbers ns else ns))) ≤ 100
-cut_room true ns h = omega (arith, spaced_numbers (take fewest_numbers ns) (short_front fewest_numbers ns h.1), length-take fewest_numbers ns)
+cut_room true ns h = omega (arith, spaced_numbers (take fewest_numbers ns) (all_take IsShort fewest_numbers ns h.1), length-take fewest_numbers ns)
 cut_room false ns h = omega (arith, spaced_numbers ns h.1, h.0)
 
 -- ---- all operands

@@ -1,14 +1,17 @@
 -- What the operands of a line write is read back, whatever their shape.
-use Rattle.std.proofs.Common.{◌≡◌, ◌<◌, ◌++◌, ℕ, zero, suc, List, [], ◌∷◌, true, false, length, length-append, map, take, append-nil, arith, refl, ap, Some, None, inl, inr}
-use Rattle.std.specs.Prelude.{◌^◌, ◌==◌, decimal, nat_abs, option_and_then, option_map, slice_index, unwrap_or, IfSome}
+use Rattle.std.proofs.Common.{◌≡◌, ◌<◌, ◌+◌, ◌++◌, ◌∙◌, ℕ, zero, suc, List, [], ◌∷◌, true, false, length, length-append, map, get_or, take, append-nil, arith, refl, ap, subst, sym, Some}
+use Rattle.std.proofs.Common.{None, inl, inr, ◌^◌, ◌==◌, decimal, nat_abs, option_and_then, option_map, slice_index, unwrap_or, IfSome, length-take, take_all}
 use Rattle.std.specs.declared.option.Option.{Option}
 use Rattle.std.proofs.lemmas.Bool.{cases_eq}
 use Rattle.std.proofs.lemmas.Bool.Decides.{nat_tests}
-use Rattle.std.proofs.lemmas.Grind.{common_steps}
+use Rattle.std.proofs.Math.Seq.{get_or-append_seam, take-append_seam}
+use Rattle.std.proofs.lemmas.List.{map-append, take_more}
 use Rattle.std.proofs.lemmas.Option.{IfSome_then}
 use Rattle.std.proofs.lemmas.List.Folds.{list_all-append}
-use Rattle.std.specs.List.{list_all}
+use Rattle.std.specs.List.{AllByRecursion, list_all}
 use Rattle.rf_base.specs.declared.decimal.Decimal.{Decimal}
+use Rattle.rf_exclusions.specs.declared.scan_set.Sep.{Sep}
+use Rattle.rf_exclusions.specs.declared.scan_set.Sep.TheVariants.{Comma, Semicolon, Tab}
 use Rattle.rf_base.specs.Decimal.{number_of}
 use Rattle.rf_base.specs.FileName.{is_file_name}
 use Rattle.rf_base.specs.Name.{is_name}
@@ -19,8 +22,8 @@ use Rattle.rf_text.specs.Separators.{sep_of, sep_text}
 use Rattle.rf_text.specs.Shapes.{Operand, a_decimal, a_file, a_name, a_number, a_separator, Value, value, Shape, nothing, last, perhaps, numbers, ◌and◌, Values, values}
 use Rattle.rf_text.specs.Words.{is_word}
 use Rattle.rf_text.proofs.DecimalsBack.{decimal_back, decimal_read}
-use Rattle.rf_text.proofs.OperandsBack.{Says, file_back, file_read, if_map, name_back, name_read, number_back, number_read}
-use Rattle.rf_text.proofs.SeparatorsBack.{sep_back}
+use Rattle.rf_text.proofs.OperandsBack.{Says, file_back, file_read, name_back, name_read, number_back, number_read}
+use Rattle.rf_base.proofs.OptionLaws.{if_found, if_map}
 
 abbrev pub IsNamed : List ℕ → Type 0
 IsNamed name = is_name name ≡ true
@@ -35,20 +38,33 @@ abbrev pub IsShort : ℕ → Type 0
 IsShort n = n < 10 ^ 9
 
 abbrev pub AreShort : List ℕ → Type 0
-AreShort [] = Unit {0}
-AreShort (n ∷ ns) = IsShort n × AreShort ns
+AreShort = AllByRecursion IsShort
 
-if_then : {A B : Type 0} (next : A → Option B) (P : A → Type 0) (Q : B → Type 0) (o : Option A) → IfSome o P → ((x : A) → P x → IfSome (next x) Q) → IfSome (o >>= next) Q
-if_then next P Q None h k = tt
-if_then next P Q (Some x) h k = k x h
+-- ---- all of a list
+
+pub all_both : {X : Type 0} (P : X → Type 0) (xs ys : List X) → AllByRecursion P xs → AllByRecursion P ys → AllByRecursion P (xs ++ ys)
+all_both P [] ys h k = k
+all_both P (x ∷ xs) ys h k = (h.0, all_both P xs ys h.1 k)
+
+pub all_at : {X : Type 0} (P : X → Type 0) (xs : List X) (i : ℕ) (d : X) → AllByRecursion P xs → i < length xs → P (get_or xs i d)
+all_at P [] i d h inside = absurd (omega arith)
+all_at P (x ∷ xs) zero d h inside = h.0
+all_at P (x ∷ xs) (suc i) d h inside = all_at P xs i d h.1 (omega arith)
+
+pub all_take : {X : Type 0} (P : X → Type 0) (n : ℕ) (xs : List X) → AllByRecursion P xs → AllByRecursion P (take n xs)
+all_take P zero xs h = tt
+all_take P (suc n) [] h = tt
+all_take P (suc n) (x ∷ xs) h = (h.0, all_take P n xs h.1)
+
+-- ---- readers
 
 if_first : {A B : Type 0} (reads : List ℕ → Option A) (others : List (List ℕ) → Option B) (P : A → Type 0) (Q : B → Type 0)
     → ((word : List ℕ) → IfSome (reads word) P) → ((words : List (List ℕ)) → IfSome (others words) Q)
     → (words : List (List ℕ)) → IfSome (first reads others words) (λ w. P w.0 × Q w.1)
 if_first reads others P Q p q [] = tt
 if_first reads others P Q p q (word ∷ words) =
-    if_then (λ x. others words >>= (λ y. Some (x, y))) P (λ w. P w.0 × Q w.1) (reads word) (p word)
-    (λ x h. if_then (λ y. Some (x, y)) Q (λ w. P w.0 × Q w.1) (others words) (q words) (λ y k. (h, k)))
+    if_found (λ x. others words >>= (λ y. Some (x, y))) P (λ w. P w.0 × Q w.1) (reads word) (p word)
+    (λ x h. if_found (λ y. Some (x, y)) Q (λ w. P w.0 × Q w.1) (others words) (q words) (λ y k. (h, k)))
 
 if_one : {A : Type 0} (reads : List ℕ → Option A) (P : A → Type 0)
     → ((word : List ℕ) → IfSome (reads word) P) → (words : List (List ℕ)) → IfSome (one reads words) P
@@ -78,10 +94,6 @@ if_several others Q q (suc count) words =
 abbrev pub AreNumbers : List ℕ → Type 0
 AreNumbers ns = (length ns ≡ suc fewest_numbers) × AreShort ns
 
-short_last : (front : List ℕ) (x : ℕ) → AreShort front → IsShort x → AreShort (front ++ x ∷ [])
-short_last [] x h k = (k, tt)
-short_last (n ∷ front) x h k = (h.0, short_last front x h.1 k)
-
 or_zero : (last : Option ℕ) → IfSome last IsShort → IsShort (unwrap_or last 0)
 or_zero None h = omega arith
 or_zero (Some n) h = h
@@ -92,7 +104,7 @@ numbers_said words =
     if_map (λ w. w.0 ++ unwrap_or w.1 0 ∷ []) AreNumbers (several fewest_numbers number_of (at_most_one number_of) words)
     (IfSome_then (several fewest_numbers number_of (at_most_one number_of) words)
     (if_several (at_most_one number_of) (λ last. IfSome last IsShort) (if_at_most_one number_of IsShort number_read) fewest_numbers words)
-    (λ w h. (let long = length-append w.0 (unwrap_or w.1 0 ∷ []) in omega (arith, long, h.0.0), short_last w.0 (unwrap_or w.1 0) h.0.1 (or_zero w.1 h.1))))
+    (λ w h. (let long = length-append w.0 (unwrap_or w.1 0 ∷ []) in omega (arith, long, h.0.0), all_both IsShort w.0 (unwrap_or w.1 0 ∷ []) h.0.1 (or_zero w.1 h.1, tt))))
 
 one_more : {B : Type 0} (n : ℕ) (ns : List ℕ) (o : Option B)
     → option_map {T = ℕ × (List ℕ × B)} {U = List ℕ × B} (λ w. (w.0 ∷ w.1.0, w.1.1)) (option_and_then (λ more. Some (n, more)) (option_map (λ more. (ns, more)) o))
@@ -114,36 +126,6 @@ numbers_words : (ns : List ℕ) → AreShort ns → list_all is_word (map decima
 numbers_words [] h = refl
 numbers_words (n ∷ ns) h = let first = number_back n h.0 in rw (first.valid, numbers_words ns h.1) refl
 
--- all numbers but the last, and the last
-record Ends (ns : List ℕ) (count : ℕ) : Type 0 where
-  front : List ℕ
-  last : ℕ
-  is : ns ≡ front ++ last ∷ []
-  long : length front ≡ count
-
-ends_of : (count : ℕ) (ns : List ℕ) → length ns ≡ suc count → Ends ns count
-ends_of count [] h = absurd (omega arith)
-ends_of zero (n ∷ []) h = record { front = []; last = n; is = refl; long = refl }
-ends_of (suc count) (n ∷ []) h = absurd (omega arith)
-ends_of zero (n ∷ m ∷ ns) h = absurd (omega arith)
-ends_of (suc count) (n ∷ m ∷ ns) h =
-    let e = ends_of count (m ∷ ns) (omega arith) in
-    record { front = n ∷ e.front; last = e.last; is = ap (λ more. n ∷ more) e.is; long = ap suc e.long }
-
-short_ends : (front : List ℕ) (x : ℕ) → AreShort (front ++ x ∷ []) → AreShort front × IsShort x
-short_ends [] x h = (tt, h.0)
-short_ends (n ∷ front) x h = let more = short_ends front x h.1 in ((h.0, more.0), more.1)
-
-last_at : (front : List ℕ) (x n : ℕ) → length front ≡ n → slice_index (front ++ x ∷ []) n ≡ x
-last_at front x n h = rw (← h) (grind (arith, common_steps))
-
-front_of : (front : List ℕ) (x n : ℕ) → length front ≡ n → take n (front ++ x ∷ []) ≡ front
-front_of front x n h = rw (← h) (grind (arith, common_steps))
-
-map_last : (front : List ℕ) (x : ℕ) → map decimal (front ++ x ∷ []) ≡ map decimal front ++ decimal x ∷ []
-map_last [] x = refl
-map_last (n ∷ front) x = ap (λ more. decimal n ∷ more) (map_last front x)
-
 -- the numbers of a profile
 record NumbersBack (ns : List ℕ) : Type 0 where
   read : profile_numbers (number_words ns) ≡ Some ns
@@ -152,8 +134,8 @@ record NumbersBack (ns : List ℕ) : Type 0 where
 ended_back : (front : List ℕ) (x : ℕ) → length front ≡ fewest_numbers → AreShort front → IsShort x → NumbersBack (front ++ x ∷ [])
 unfolding profile_numbers
 ended_back front x long h k =
-    let at = last_at front x fewest_numbers long in
-    let taken = front_of front x fewest_numbers long in
+    let at : slice_index (front ++ x ∷ []) fewest_numbers ≡ x = rw (← long) (get_or-append_seam front x [] 0) in
+    let taken : take fewest_numbers (front ++ x ∷ []) ≡ front = rw (← long) (take-append_seam front (x ∷ [])) in
     let valid = numbers_words front h in
     let last = number_back x k in
     elim (cases_eq x 0) [
@@ -166,22 +148,27 @@ ended_back front x long h k =
           let zero_is : (x == 0) ≡ false = grind (arith, nat_tests) in
           let read : several fewest_numbers number_of (at_most_one number_of) (map decimal front ++ decimal x ∷ []) ≡ Some (front, Some x) =
           rw (← long) (let is = several_back (at_most_one number_of) (decimal x ∷ []) front h in rw last.read at is) in
-          record { read = rw (at, zero_is, map_last, read) refl; valid = rw (at, zero_is, map_last, list_all-append, valid, last.valid) refl }
+          record { read = rw (at, zero_is, map-append, read) refl; valid = rw (at, zero_is, map-append, list_all-append, valid, last.valid) refl }
     ]
 
 profile_back : (ns : List ℕ) → length ns ≡ suc fewest_numbers → AreShort ns → NumbersBack ns
 profile_back ns long h =
-    let e = ends_of fewest_numbers ns long in
-    let is = e.is in
-    let all : AreShort (e.front ++ e.last ∷ []) = rw is at h in
-    let p = short_ends e.front e.last all in
-    rw is (ended_back e.front e.last e.long p.0 p.1)
+    let whole = sym (take_more ns fewest_numbers 0 (omega (arith, long))) ∙ take_all (fewest_numbers + 1) ns (omega (arith, long)) in
+    subst NumbersBack whole (ended_back (take fewest_numbers ns) (slice_index ns fewest_numbers) (omega (arith, long, length-take fewest_numbers ns))
+    (all_take IsShort fewest_numbers ns h) (all_at IsShort ns fewest_numbers 0 h (omega (arith, long))))
 
 -- ---- one operand
 
 any : {A : Type 0} (o : Option A) → IfSome o (λ _. Unit {0})
 any None = tt
 any (Some x) = tt
+
+-- the name of a separator is read back as the separator
+sep_back : (sep : Sep) → Says sep_of (sep_text sep) (Some sep)
+unfolding sep_of
+sep_back Comma = record { read = refl; valid = refl }
+sep_back Semicolon = record { read = refl; valid = refl }
+sep_back Tab = record { read = refl; valid = refl }
 
 -- what a word can write
 abbrev pub IsValue : (operand : Operand) → Value operand → Type 0

@@ -1,38 +1,8 @@
 -- Lines of commands that are added one after another.
-use Rattle.std.proofs.Common.{
-  ◌≡◌,
-  ◌<◌,
-  ◌≤◌,
-  ◌+◌,
-  ◌-◌,
-  ◌++◌,
-  ◌∙◌,
-  ℕ,
-  List,
-  [],
-  ◌∷◌,
-  Bool,
-  true,
-  false,
-  not,
-  length,
-  length-append,
-  map,
-  filter,
-  take,
-  drop,
-  get_or,
-  length-drop,
-  append-nil,
-  append_assoc,
-  arith,
-  refl,
-  sym,
-  ap,
-}
-use Rattle.std.specs.Prelude.{if◌then◌else◌, slice_get, Some, Result, Ok, Err, OnOk}
+use Rattle.std.proofs.Common.{◌≡◌, ◌<◌, ◌≤◌, ◌+◌, ◌-◌, ◌++◌, ◌∙◌, ℕ, List, [], ◌∷◌, Bool, true, false, not, length, length-append, map, filter, take, drop, get_or, length-drop, append-nil}
+use Rattle.std.proofs.Common.{append_assoc, arith, refl, sym, ap, if◌then◌else◌, slice_get, Some, Result, Ok, Err, OnOk, get_or-drop, take_all}
 use Rattle.std.specs.List.{flat_map, range_with_len}
-use Rattle.std.proofs.lemmas.List.{get_or-drop, take_all, take_more}
+use Rattle.std.proofs.lemmas.List.{map-append, take_more}
 use Rattle.std.proofs.lemmas.List.Elements.{filter-append}
 use Rattle.std.proofs.lemmas.Option.{get_or_from_slice_get, slice_get_within}
 use Rattle.std.proofs.lemmas.List.Concat.{flat_map-append}
@@ -46,40 +16,30 @@ use Rattle.rf_zones.specs.declared.coupling.Coupling.{Coupling}
 use Rattle.rf_text.specs.declared.command.Command.{Command}
 use Rattle.rf_text.specs.declared.command.Command.TheVariants.{Change}
 use Rattle.rf_text.specs.declared.command_lines.CommandLines.{CommandLines}
-use Rattle.rf_text.specs.Shows.{Adds, IsCounted, coupling_edit, first_range_line, pair_line, pairs_with, range_line, ranges_lines, same_coupling, stand, zone_line, zone_name}
-use Rattle.rf_text.proofs.RunLemmas.{range_parts}
+use Rattle.rf_text.specs.Shows.{Adds, coupling_edit, first_range_line, pair_line, pairs_with, range_line, ranges_lines, same_coupling, stand, zone_line}
+use Rattle.rf_profiles.proofs.RunLaws.{range_parts}
+use Rattle.rf_base.proofs.BoolLaws.{not_is}
 
 -- some lines, and then others
 pub adds_both : (old next new : CommandLines) (commands more : List Command) → Adds old next commands → Adds next new more → Adds old new (commands ++ more)
 adds_both old next new commands more a b =
-    let first = a.text in
-    let added = b.text in
-    let long = length-append commands more in
     record {
-      text = rw (added, first) (simp (flat_map-append, append_assoc) refl);
-      count = omega (arith, a.count, b.count, long);
+      text = rw (b.text, a.text) (simp (flat_map-append, append_assoc) refl);
+      count = omega (arith, a.count, b.count, length-append commands more);
       counted = b.counted;
     }
-
-map-push : {X Y : Type 0} (f : X → Y) (xs : List X) (x : X) → map f (xs ++ x ∷ []) ≡ map f xs ++ f x ∷ []
-map-push f [] x = refl
-map-push f (y ∷ xs) x = ap (λ more. f y ∷ more) (map-push f xs x)
 
 -- the line of one element more
 pub adds_one : {X : Type 0} (old next new : CommandLines) (f : X → Command) (xs : List X) (index : ℕ) (x : X) → index < length xs
     → Adds old next (map f (take index xs)) → Adds next new (f (get_or xs index x) ∷ []) → Adds old new (map f (take (index + 1) xs))
 adds_one old next new f xs index x inside a b =
-    let taken = take_more xs index x inside in
-    rw (taken, map-push) (adds_both old next new (map f (take index xs)) (f (get_or xs index x) ∷ []) a b)
+    rw (take_more xs index x inside, map-append) (adds_both old next new (map f (take index xs)) (f (get_or xs index x) ∷ []) a b)
 
 -- ---- zones
 
 both : {X Y : Type 0} (f : X → Y) (test : Bool) (xs : List X) (x : X) → map f (xs ++ (if test then x ∷ [] else [])) ≡ map f xs ++ (if test then f x ∷ [] else [])
-both f true xs x = map-push f xs x
+both f true xs x = map-append f xs (x ∷ [])
 both f false xs x = rw (append-nil xs) (sym (append-nil (map f xs)))
-
-mapped : {X Y : Type 0} (f : X → Y) (p : X → Bool) (xs : List X) (x : X) → map f (xs ++ (if p x then x ∷ [] else [])) ≡ map f xs ++ (if p x then f x ∷ [] else [])
-mapped f p xs x = both f (p x) xs x
 
 -- one zone more
 pub zones_more : (old next new : CommandLines) (names : List (List ℕ)) (z : ℕ) (name : List ℕ) → 1 ≤ z → slice_get names z ≡ Some name
@@ -93,24 +53,11 @@ zones_more old next new names z name low is a b =
     get_or-drop 1 names (z - 1) name ∙ ap (λ i. get_or names i name) place ∙ get_or_from_slice_get names z name name is in
     rw index (adds_one old next new zone_line (drop 1 names) (z - 1) name (omega (arith, long, slice_get_within names z name is)) a (rw here b))
 
--- a name where there is one
-name_of_zone : (zones : ZonesData) (z : ℕ) (name : List ℕ) → slice_get zones.names z ≡ Some name → zone_name zones z ≡ name
-name_of_zone zones z name is = get_or_from_slice_get zones.names z name [] is
-
 same_as : (c d : Coupling) → sameb the_type c d ≡ same_coupling c d
 same_as Apart Apart = refl
-same_as Apart Coupled = refl
-same_as Apart Far = refl
-same_as Coupled Apart = refl
 same_as Coupled Coupled = refl
-same_as Coupled Far = refl
-same_as Far Apart = refl
-same_as Far Coupled = refl
 same_as Far Far = refl
-
-not_is : (a b : Bool) → not a ≡ b → a ≡ not b
-not_is true b h = ap not h
-not_is false b h = ap not h
+same_as _ _ = refl
 
 -- what the code's comparison says of two zones
 pub stands_as : (c d : Coupling) (zones : ZonesData) (a b : ℕ) (differ : Bool) → d ≡ coupling_of zones a b → not (sameb the_type d c) ≡ differ → stand c zones a b ≡ not differ
@@ -123,7 +70,7 @@ pub pairs_more : (c : Coupling) (zones : ZonesData) (a b : ℕ) → a + 1 ≤ b
     ++ (if stand c zones a b then pair_line c zones a b ∷ [] else [])
 pairs_more c zones a b h =
     let parts = range_parts (a + 1) (b - (a + 1)) 1 (b + 1 - (a + 1)) b (omega arith) (omega arith) in
-    rw (parts, filter-append) (mapped (pair_line c zones a) (stand c zones a) (filter (stand c zones a) (range_with_len (a + 1) (b - (a + 1)))) b)
+    rw (parts, filter-append) (both (pair_line c zones a) (stand c zones a b) (filter (stand c zones a) (range_with_len (a + 1) (b - (a + 1)))) b)
 
 -- a zone that stands so
 pub pair_more : (c : Coupling) (old next new : CommandLines) (zones : ZonesData) (a b : ℕ) (name other : List ℕ) → a + 1 ≤ b → stand c zones a b ≡ true
@@ -132,8 +79,8 @@ pub pair_more : (c : Coupling) (old next new : CommandLines) (zones : ZonesData)
     → Adds next new (Change (coupling_edit c name other) ∷ [])
     → Adds old new (map (pair_line c zones a) (filter (stand c zones a) (range_with_len (a + 1) (b + 1 - (a + 1)))))
 pair_more c old next new zones a b name other h is first second x y =
-    let one = name_of_zone zones a name first in
-    let two = name_of_zone zones b other second in
+    let one = get_or_from_slice_get zones.names a name [] first in
+    let two = get_or_from_slice_get zones.names b other [] second in
     rw (pairs_more c zones a b h, is, one, two) (adds_both old next new _ (Change (coupling_edit c name other) ∷ []) x y)
 
 -- a zone that does not

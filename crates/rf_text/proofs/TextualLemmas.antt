@@ -1,10 +1,8 @@
 -- Edits of lines and files leave only widths that a text may give.
-use Rattle.std.proofs.Common.{◌≡◌, ◌≤◌, ◌++◌, ◌∙◌, ℕ, zero, suc, List, [], ◌∷◌, Bool, true, false, drop, arith, refl, ap, sym, Some, None, Ok}
-use Rattle.std.specs.Prelude.{slice_index, IfSome, if◌then◌else◌}
+use Rattle.std.proofs.Common.{◌≡◌, ◌≤◌, ◌++◌, ◌∙◌, ℕ, zero, suc, List, [], ◌∷◌, true, drop, arith, refl, ap, sym, inl, inr, Some, None, Ok, slice_index, IfSome}
 use Rattle.std.specs.declared.option.Option.{Option}
-use Rattle.std.specs.Option.{option_and_then}
 use Rattle.std.specs.List.{list_all}
-use Rattle.std.proofs.lemmas.Bool.{and_parts}
+use Rattle.std.proofs.lemmas.Bool.{and_parts, cases_Bool}
 use Rattle.std.proofs.lemmas.List.Folds.{list_all-append}
 use Rattle.rf_profiles.specs.Channels.{channels_of}
 use Rattle.rf_profiles.specs.Profile.{differ, is_width, profile_names, profile_of, profile_with}
@@ -16,9 +14,10 @@ use Rattle.rf_show.specs.declared.refusal.Refusal.{Refusal}
 use Rattle.rf_show.specs.After.{after_unless, edited, is_edit, refusal, with_some}
 use Rattle.rf_show.specs.Raised.{is_textual}
 use Rattle.rf_show.specs.Show.{ShowData, is_profile}
-use Rattle.rf_show.proofs.FirstLemmas.{list_all-change_first, list_all-remove_first}
+use Rattle.rf_show.proofs.FirstLaws.{list_all-change_first, list_all-remove_first}
 use Rattle.rf_text.specs.ShowLaw.{EditsStayTextual}
-use Rattle.rf_text.proofs.ProfilesMade.{is_worded}
+use Rattle.rf_text.proofs.PartsMade.{is_worded}
+use Rattle.rf_base.proofs.OptionLaws.{if_any}
 
 -- ---- a profile of numbers
 
@@ -37,17 +36,12 @@ worded_with name ns ranges h =
 abbrev IsWorded : Option Profile → Type 0
 IsWorded made = IfSome made (λ p. is_worded p ≡ true)
 
-if_after : {X : Type 0} (o : Option X) (next : X → Option Profile) → ((x : X) → IsWorded (next x)) → IsWorded (option_and_then next o)
-if_after None next h = tt
-if_after (Some x) next h = h x
-
-if_under : (test : Bool) (o : Option Profile) → (test ≡ true → IsWorded o) → IsWorded (if test then o else None)
-if_under true o h = h refl
-if_under false o h = tt
-
 profile_worded : (name ns : List ℕ) → IsWorded (profile_of name ns)
-profile_worded name ns = if_under (list_all is_width (drop 3 ns)) _
-    (λ h. if_after (range_of (slice_index ns 0) (slice_index ns 1) (slice_index ns 2)) _ (λ range. if_after (channels_of range) _ (λ channels. worded_with name ns channels h)))
+profile_worded name ns = elim (cases_Bool (list_all is_width (drop 3 ns))) [
+  | inl h ↦ rw h (if_any _ (λ p. is_worded p ≡ true) (range_of (slice_index ns 0) (slice_index ns 1) (slice_index ns 2))
+      (λ range. if_any _ (λ p. is_worded p ≡ true) (channels_of range) (λ channels. worded_with name ns channels h)))
+  | inr h ↦ rw h tt
+]
 
 -- ---- all profiles
 

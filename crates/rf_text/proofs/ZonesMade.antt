@@ -1,70 +1,29 @@
 -- The zones of a show, made by their lines.
-use Rattle.std.proofs.Common.{
-  ◌≡◌,
-  ◌<◌,
-  ◌≤◌,
-  ◌+◌,
-  ◌-◌,
-  ◌++◌,
-  ◌∙◌,
-  ℕ,
-  zero,
-  suc,
-  List,
-  [],
-  ◌∷◌,
-  Bool,
-  true,
-  false,
-  cond,
-  length,
-  length-append,
-  map,
-  filter,
-  replicate,
-  get_or,
-  set,
-  length-set,
-  add-one,
-  append-nil,
-  append_assoc,
-  arith,
-  refl,
-  sym,
-  Some,
-  None,
-  Ok,
-  ◌⊎◌,
-  inl,
-  inr,
-}
-use Rattle.std.specs.Prelude.{nat_lt, nat_eq, is_some, position}
-use Rattle.std.specs.List.{AllByRecursion, IsDistinct, list_any, position_or_len, flat_map, range_with_len}
+use Rattle.std.proofs.Common.{◌≡◌, ◌<◌, ◌≤◌, ◌+◌, ◌-◌, ◌++◌, ◌∙◌, ℕ, zero, suc, List, [], ◌∷◌, true, false, length, map, filter, replicate, get_or, set, length-set, add-one, arith, refl}
+use Rattle.std.proofs.Common.{sym, Some, Ok, ◌⊎◌, inl, inr, nat_eq, position, lt-ltb, ext_get_or, get_or-set_other}
+use Rattle.std.specs.List.{IsDistinct, list_any, flat_map, range_with_len}
 use Rattle.std.specs.Cmp.Lexicographic.{nat_list_eq_equiv}
-use Rattle.std.proofs.lemmas.Bool.{cases_Bool, cases_lt, cases_eq, lt-ltb, false≢true}
+use Rattle.std.proofs.lemmas.Bool.{cases_Bool, cases_lt, cases_eq, false≢true}
 use Rattle.std.proofs.lemmas.Bool.Decides.{nat_tests}
-use Rattle.std.proofs.lemmas.Grind.{common_steps, get_or-set_at}
-use Rattle.std.proofs.lemmas.List.{ext_get_or, get_or-set_other, length_push, length-replicate, replicate-append-replicate}
+use Rattle.std.proofs.lemmas.Grind.{get_or-set_at}
+use Rattle.std.proofs.lemmas.List.{length_push, get_or-replicate, length-replicate, replicate-append-replicate}
 use Rattle.std.proofs.lemmas.List.Sums.{position_or_len_is}
 use Rattle.std.proofs.lemmas.Map.Keys.{apart_from_distinct}
 use Rattle.rf_base.specs.Name.{same_name}
 use Rattle.rf_zones.specs.Zones.{ZonesData, pairs, pair_place, with_zone}
 use Rattle.rf_zones.specs.declared.coupling.Coupling.{Coupling}
 use Rattle.rf_zones.specs.declared.coupling.Coupling.TheVariants.{Apart, Coupled, Far}
-use Rattle.rf_show.specs.declared.edit.Edit.TheVariants as edit
 use Rattle.rf_show.specs.After.{after}
 use Rattle.rf_show.specs.Limits.{most_zones}
 use Rattle.rf_show.specs.Show.{ShowData}
 use Rattle.rf_text.specs.declared.command.Command.{Command}
 use Rattle.rf_text.specs.ShowLaw.{HotPointsOf}
-use Rattle.rf_text.specs.Shows.{couple_lines, coupling_edit, far_lines, pair_line, pairs_with, same_coupling, stand, zone_line, zone_name}
-use Rattle.rf_text.proofs.MadeLemmas.{fits_not, made, made_all}
+use Rattle.rf_text.specs.Shows.{couple_lines, coupling_edit, far_lines, pair_line, pairs_with, same_coupling, stand, zone_line}
+use Rattle.rf_text.proofs.MadeLemmas.{all_at, full_not, made, made_all, map_made}
+use Rattle.rf_base.proofs.ListLaws.{position_any}
+use Rattle.rf_zones.proofs.PairLaws.{pairs-rise, place_low}
 
 -- ---- names
-
-all_at : {X : Type 0} (P : X → Type 0) (xs : List X) (y : X) (ys : List X) → AllByRecursion P (xs ++ y ∷ ys) → P y
-all_at P [] y ys h = h.0
-all_at P (x ∷ xs) y ys h = all_at P xs y ys h.1
 
 pub fresh : (done : List (List ℕ)) (name : List ℕ) (rest : List (List ℕ)) → IsDistinct same_name (done ++ name ∷ rest) → list_any (same_name name) done ≡ false
 unfolding IsDistinct
@@ -73,22 +32,7 @@ fresh (x ∷ done) name rest h =
     let apart : same_name name x ≡ false = nat_list_eq_equiv.symm name x ∙ all_at _ done name rest h.0 in
     rw (apart, fresh done name rest h.1) refl
 
-place_any : {X : Type 0} (p : X → Bool) (xs : List X) → nat_lt (position_or_len p xs) (length xs) ≡ list_any p xs
-place_any p [] = refl
-place_any p (x ∷ xs) = grind (arith, common_steps, place_any p xs)
-
-some_cond : {X : Type 0} (b : Bool) (x : X) → is_some (cond b (Some x) None) ≡ b
-some_cond true x = refl
-some_cond false x = refl
-
-pub position_any : {X : Type 0} (p : X → Bool) (xs : List X) → is_some (position p xs) ≡ list_any p xs
-position_any p xs = some_cond (nat_lt (position_or_len p xs) (length xs)) (position_or_len p xs) ∙ place_any p xs
-
 -- ---- zones
-
-zone_step : (s : ShowData) (name : List ℕ) → list_any (same_name name) s.zones.names ≡ false → length s.zones.names < most_zones
-    → after s (edit.AddZone name) ≡ Ok (record s { zones = with_zone s.zones name })
-zone_step s name new room = rw (position_any (same_name name) s.zones.names ∙ new, fits_not (length s.zones.names) most_zones room) refl
 
 -- these zones, apart from each other
 abbrev pub uncoupled : List (List ℕ) → ZonesData
@@ -100,15 +44,12 @@ uncoupled_more done name =
     let long : length (done ++ name ∷ []) ≡ suc (length done) = length_push done name ∙ add-one (length done) in
     rw (replicate-append-replicate, long) refl
 
-pub zones_made : (hot : HotPointsOf) (s : ShowData) (done rest : List (List ℕ)) → IsDistinct same_name (done ++ rest) → length done + length rest ≤ most_zones
+pub zones_made : (hot : HotPointsOf) (s : ShowData) (done rest : List (List ℕ)) → IsDistinct same_name (done ++ rest) → length (done ++ rest) ≤ most_zones
     → made hot (record s { zones = uncoupled done }) (map zone_line rest) ≡ Some (record s { zones = uncoupled (done ++ rest) })
-zones_made hot s done [] distinct room = rw append-nil refl
-zones_made hot s done (name ∷ rest) distinct room =
-    let step = zone_step (record s { zones = uncoupled done }) name (fresh done name rest distinct) (omega arith) in
-    let long = length-append done (name ∷ []) in
-    let whole : IsDistinct same_name ((done ++ name ∷ []) ++ rest) = rw append_assoc distinct in
-    let more = zones_made hot s (done ++ name ∷ []) rest whole (omega (arith, long)) in
-    rw (step, uncoupled_more done name) (rw append_assoc at more)
+zones_made hot s done rest distinct room =
+    map_made hot (λ all. record s { zones = uncoupled all }) zone_line (λ all. IsDistinct same_name all × (length all ≤ most_zones))
+    (λ names name more h. rw (position_any (same_name name) names ∙ fresh names name more h.0, full_not names name more most_zones h.1, uncoupled_more names name) refl)
+    done rest (distinct, room)
 
 -- ---- couplings
 
@@ -132,22 +73,11 @@ edit_step Apart s a b x y first second low = rw (first, second, apart x y low) r
 edit_step Coupled s a b x y first second low = rw (first, second, apart x y low) refl
 edit_step Far s a b x y first second low = rw (first, second, apart x y low) refl
 
-pair_step : (c : Coupling) (s : ShowData) (names : List (List ℕ)) (old target : List Coupling) (a b : ℕ) → IsDistinct same_name names → a < b → b < length names
-    → after (record s { zones = coupled_as names old }) (coupling_edit c (zone_name (coupled_as names target) a) (zone_name (coupled_as names target) b))
-    ≡ Ok (record s { zones = coupled_as names (set old (pair_place a b) c) })
-pair_step c s names old target a b distinct low high =
-    edit_step c (record s { zones = coupled_as names old }) _ _ a b (position_of names a [] distinct (omega arith)) (position_of names b [] distinct high) low
-
 same_is : (c d : Coupling) → same_coupling c d ≡ true → c ≡ d
 same_is Apart Apart h = refl
-same_is Apart Coupled h = cc
-same_is Apart Far h = cc
-same_is Coupled Apart h = cc
 same_is Coupled Coupled h = refl
-same_is Coupled Far h = cc
-same_is Far Apart h = cc
-same_is Far Coupled h = cc
 same_is Far Far h = refl
+same_is _ _ h = cc
 
 same_own : (c : Coupling) → same_coupling c c ≡ true
 same_own Apart = refl
@@ -180,28 +110,16 @@ record Settles (hot : HotPointsOf) (s : ShowData) (names : List (List ℕ)) (c :
   stays : Stays target old new
   there : (a b : ℕ) → Pair a b → get_or target (pair_place a b) Apart ≡ c → get_or new (pair_place a b) Apart ≡ c
 
-pairs_rise : (m n : ℕ) → m ≤ n → pairs m ≤ pairs n
-unfolding pairs
-pairs_rise zero zero h = omega arith
-pairs_rise (suc m) zero h = absurd (omega arith)
-pairs_rise m (suc n) h = elim (cases_lt n m) [
-  | inl above ↦ let same : m ≡ suc n = omega arith in rw same (omega arith)
-  | inr below ↦ omega (arith, pairs_rise m n below)
-]
-
-place_of : (a b : ℕ) → a < b → pair_place a b ≡ pairs b + a
-place_of a b low = rw (lt-ltb a b low) refl
-
 place_within : (a b n : ℕ) → a < b → b < n → pair_place a b < pairs n
 unfolding pairs
-place_within a b n low high = rw (place_of a b low) (omega (arith, pairs_rise (suc b) n high))
+place_within a b n low high = rw (place_low a b low) (omega (arith, pairs-rise (suc b) n high))
 
 pair_of : (n k : ℕ) → k < pairs n → (a : ℕ) × (b : ℕ) × (a < b) × (b < n) × (pair_place a b ≡ k)
 unfolding pairs
 pair_of zero k h = absurd (omega arith)
 pair_of (suc n) k h = elim (cases_lt k (pairs n)) [
   | inl low ↦ let (a, b, p, q, r) = pair_of n k low in (a, b, p, omega (arith, q), r)
-  | inr high ↦ let less : k - pairs n < n = omega (arith, h) in (k - pairs n, n, less, omega arith, place_of (k - pairs n) n less ∙ omega (arith, high))
+  | inr high ↦ let less : k - pairs n < n = omega (arith, h) in (k - pairs n, n, less, omega arith, place_low (k - pairs n) n less ∙ omega (arith, high))
 ]
 
 module _ (hot : HotPointsOf) (s : ShowData) (names : List (List ℕ)) (target : List Coupling) (distinct : IsDistinct same_name names) (paired : length target ≡ pairs (length names)) where
@@ -217,7 +135,9 @@ module _ (hot : HotPointsOf) (s : ShowData) (names : List (List ℕ)) (target : 
         | inl on ↦
             let at = same_is (get_or target (pair_place a b0) Apart) c on in
             let inside : pair_place a b0 < length old = omega (arith, place_within a b0 (length names) low (omega arith), h, paired) in
-            let step = pair_step c s names old target a b0 distinct low (omega arith) in
+            let first = position_of names a [] distinct (omega arith) in
+            let second = position_of names b0 [] distinct (omega arith) in
+            let step = edit_step c (record s { zones = coupled_as names old }) _ _ a b0 first second low in
             let long = length-set old (pair_place a b0) c in
             let rest = row c a m (b0 + 1) (set old (pair_place a b0) c) (long ∙ h) (omega arith) (omega arith) in
             record {
@@ -264,11 +184,6 @@ module _ (hot : HotPointsOf) (s : ShowData) (names : List (List ℕ)) (target : 
         ];
       }
 
-  off : (n k : ℕ) → get_or (replicate n Apart) k Apart ≡ Apart
-  off zero k = refl
-  off (suc n) zero = refl
-  off (suc n) (suc k) = off n k
-
   -- what is to be neither coupled nor coupled far is apart
   neither : (is near far : Coupling) → near ≡ Apart → far ≡ Apart → (is ≡ Coupled → near ≡ Coupled) → (is ≡ Far → far ≡ Far) → far ≡ is
   neither Apart near far n f g h = f
@@ -297,7 +212,7 @@ module _ (hot : HotPointsOf) (s : ShowData) (names : List (List ℕ)) (target : 
       let same : length far.new ≡ length target = far.long ∙ (near.long ∙ long) in
       let whole : far.new ≡ target = ext_get_or Apart far.new target same (λ k inside.
       let (a, b, p, q, r) = pair_of (length names) k (omega (arith, same, paired)) in
-      settled k start near.new far.new (off (pairs (length names)) k) near.stays far.stays
+      settled k start near.new far.new (get_or-replicate (pairs (length names)) k Apart Apart (omega (arith, same, paired))) near.stays far.stays
       (λ is. rw r at (near.there a b (omega arith, omega (arith, p, q), p, q) (rw r is)))
       (λ is. rw r at (far.there a b (omega arith, omega (arith, p, q), p, q) (rw r is)))) in
       made_all hot _ _ _ (couple_lines zones) _ near.is (made_all hot _ _ _ (far_lines zones) more (rw whole at far.is) then)

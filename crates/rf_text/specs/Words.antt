@@ -1,18 +1,8 @@
 -- The words of a line.
-use Rattle.std.specs.Prelude.{ℕ, Bool, true, false, List, [], ◌∷◌, length, not, ◌==◌, ◌&&◌, nat_le, if◌then◌else◌, Option, Some, None, position}
+use Rattle.std.specs.Prelude.{ℕ, Bool, true, false, List, [], ◌∷◌, length, not, ◌==◌, ◌&&◌, if◌then◌else◌, Option, Some, None}
 use Rattle.std.specs.List.{list_all, slice_split}
 use denote.Ref.{Bor}
-
-abbrev pub is_space : ℕ → Bool
-is_space byte = byte == 32
-
--- where the first space stands
-abbrev pub space_of : List ℕ → Option ℕ
-space_of line = position is_space line
-
--- a byte from `!` to `~`
-abbrev pub is_word_byte : ℕ → Bool
-is_word_byte byte = nat_le 33 byte && nat_le byte 126
+use Rattle.rf_base.specs.Words.{is_space, is_word_byte}
 
 -- one or more of these bytes
 abbrev pub is_word : List ℕ → Bool

@@ -5,6 +5,7 @@ ghost use Rattle.std.specs.List.{flat_map, range_with_len};
 ghost use Rattle.rf_show.specs.Query.{is_allowed};
 ghost use Rattle.rf_text.specs.Free as spec;
 ghost use Rattle.rf_base.specs.Lines.{line_of};
+ghost use Rattle.rf_profiles.specs.Runs.{IsNextRun, runs};
 
 use rf_base::NoMemory;
 use rf_show::Show;
@@ -52,8 +53,8 @@ fn write_runs(
     requires order { start ≤ end }
     requires within { end ≤ spec.channel_count show.now carrier }
     ensures text { OnOk result (string_bytes text.new ≡ string_bytes text.old
-        ++ flat_map (spec.run_line show.now carrier) (spec.runs (is_allowed show.now carrier) (range_with_len start (end - start)))) }
-    ensures total { IfOk result (λ total. total ≡ sum_by length (spec.runs (is_allowed show.now carrier) (range_with_len start (end - start)))) }
+        ++ flat_map (spec.run_line show.now carrier) (runs (is_allowed show.now carrier) (range_with_len start (end - start)))) }
+    ensures total { IfOk result (λ total. total ≡ sum_by length (runs (is_allowed show.now carrier) (range_with_len start (end - start)))) }
     ensures few { IfOk result (λ total. total ≤ end - start) }
 {
     let mut total = 0;
@@ -101,8 +102,8 @@ fn write_numbers_line(
 fn next_run(show: &Show, carrier: usize, start: u32, end: u32) -> Option<(u32, u32)>
     requires carrier { carrier < length show.now.carriers }
     requires order { start ≤ end }
-    ensures { MatchOption result (spec.runs (is_allowed show.now carrier) (range_with_len start (end - start)) ≡ [])
-        (λ run. spec.IsNextRun (is_allowed show.now carrier) start end run.0 run.1) }
+    ensures { MatchOption result (runs (is_allowed show.now carrier) (range_with_len start (end - start)) ≡ [])
+        (λ run. IsNextRun (is_allowed show.now carrier) start end run.0 run.1) }
 {
     let first = first_that(show, carrier, true, start, end);
     if first == end {

@@ -3,6 +3,7 @@
 ghost use Rattle.std.specs.Prelude.{◌≡◌, ◌∷◌, [], option_map, MatchOption};
 ghost use Rattle.std.specs.List.{list_all, slice_split};
 ghost use Rattle.rf_text.specs.Words as spec;
+ghost use Rattle.rf_base.specs.Words.{is_space, is_word_byte, space_of};
 
 use std::marker::Model;
 
@@ -64,7 +65,7 @@ impl<'a> Words<'a> {
 
 // What stands before the first space, and what is left after it.
 fn first_part(line: &[u8]) -> (&[u8], Option<&[u8]>)
-    ensures { slice_split spec.is_space line.now ≡ result.0.now ∷ spec.parts_of result.1 }
+    ensures { slice_split is_space line.now ≡ result.0.now ∷ spec.parts_of result.1 }
 {
     match space_of(line) {
         None => (line, None),
@@ -74,14 +75,14 @@ fn first_part(line: &[u8]) -> (&[u8], Option<&[u8]>)
 
 // Where the first space stands.
 fn space_of(line: &[u8]) -> Option<usize>
-    ensures { result ≡ spec.space_of line.now }
+    ensures { result ≡ space_of line.now }
 {
     line.iter().position(|byte| *byte == b' ')
 }
 
 // The parts of a line between single spaces are words.
 fn are_words(line: &[u8]) -> bool
-    ensures { result ≡ list_all spec.is_word (slice_split spec.is_space line.now) }
+    ensures { result ≡ list_all spec.is_word (slice_split is_space line.now) }
 {
     line.split(|byte| *byte == b' ').all(|part| is_word(part))
 }
@@ -93,7 +94,7 @@ fn is_word(part: &[u8]) -> bool
 }
 
 fn are_word_bytes(part: &[u8]) -> bool
-    ensures { result ≡ list_all spec.is_word_byte part.now }
+    ensures { result ≡ list_all is_word_byte part.now }
 {
     part.iter().all(|byte| *byte >= b'!' && *byte <= b'~')
 }

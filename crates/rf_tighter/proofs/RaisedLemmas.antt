@@ -5,9 +5,9 @@ use Rattle.std.specs.Option.{option_and_then, option_map_or}
 use Rattle.std.proofs.Math.Path.{fun_ext}
 use Rattle.rf_terms.specs.Kinds as table
 use Rattle.rf_terms.specs.declared.kind.Kind.{Kind}
-use Rattle.rf_terms.specs.declared.kind.Kind.TheVariants.{Spacing, T3Two, T3Three, T5Two, T5ThreeA, T5ThreeB, T7Two}
+use Rattle.rf_terms.specs.declared.kind.Kind.TheVariants.{Spacing}
 use Rattle.rf_terms.specs.declared.kind.Margin.{Margin}
-use Rattle.rf_terms.specs.declared.kind.Margin.TheVariants.{Spacing as OfSpacing, M2t3, M3t3, M2t5, M3t5, M2t7}
+use Rattle.rf_terms.specs.declared.kind.Margin.TheVariants.{Spacing as OfSpacing}
 use Rattle.rf_profiles.specs.Channels.{channels}
 use Rattle.rf_profiles.specs.Profile as profile
 use Rattle.rf_profiles.specs.declared.profile.Profile.{Profile}
@@ -19,11 +19,12 @@ use Rattle.rf_show.specs.Query.{bans_touch, channel_of, half_of, are_joined, is_
 use Rattle.rf_show.specs.Show.{ShowData, is_profile}
 use Rattle.rf_show.specs.declared.carrier.Carrier.{Carrier}
 use Rattle.rf_profiles.specs.Profile.{wider, wider_profile}
-use Rattle.rf_profiles.proofs.WiderLemmas.{wider_by_none}
+use Rattle.rf_profiles.proofs.WiderLaws.{wider_by_none}
 use Rattle.rf_show.specs.Raised.{raised}
 use Rattle.rf_tighter.specs.Raised.{IsSameChoice}
 use Rattle.rf_tighter.specs.Tighter.{IsTighter}
-use Rattle.rf_tighter.proofs.TighterLemmas.{all_below, instance-same, parts_of, size_is, tighter-plan}
+use Rattle.rf_tighter.proofs.TighterLemmas.{instance-same, parts_of, size_is, tighter-plan}
+use Rattle.rf_base.proofs.ListLaws.{all_below}
 
 -- ---- raised by nothing
 
@@ -115,11 +116,7 @@ choice-same agree show d = record {
 
 asked-margin : (d : ℕ) (p : Profile) (m : Margin) → profile.asked (wider_profile d p) m ≡ wider d (profile.asked p m)
 asked-margin d p OfSpacing = refl
-asked-margin d p M2t3 = refl
-asked-margin d p M3t3 = refl
-asked-margin d p M2t5 = refl
-asked-margin d p M3t5 = refl
-asked-margin d p M2t7 = refl
+asked-margin d p _ = refl
 
 asked-wider : (d : ℕ) (kind : Kind) (o : Option Profile)
     → option_map_or (λ (p : Profile). profile.margin_of p kind) (wider_one d o) 0 ≡ wider d (option_map_or (λ (p : Profile). profile.margin_of p kind) o 0)
@@ -145,12 +142,7 @@ max-more a b c d h k = grind (arith, h, k)
 margin-more : (show : ShowData) (less more : ℕ) → less ≤ more → (kind : Kind) (roles : List ℕ) → query.margin_of (raised show less) kind roles ≤ query.margin_of (raised show more) kind roles
 margin-more show less more h Spacing roles =
     max-more _ _ _ _ (asked-more show less more h Spacing (slice_index roles 0)) (asked-more show less more h Spacing (slice_index roles 1))
-margin-more show less more h T3Two roles = asked-more show less more h T3Two (slice_index roles (table.roles_of T3Two - 1))
-margin-more show less more h T3Three roles = asked-more show less more h T3Three (slice_index roles (table.roles_of T3Three - 1))
-margin-more show less more h T5Two roles = asked-more show less more h T5Two (slice_index roles (table.roles_of T5Two - 1))
-margin-more show less more h T5ThreeA roles = asked-more show less more h T5ThreeA (slice_index roles (table.roles_of T5ThreeA - 1))
-margin-more show less more h T5ThreeB roles = asked-more show less more h T5ThreeB (slice_index roles (table.roles_of T5ThreeB - 1))
-margin-more show less more h T7Two roles = asked-more show less more h T7Two (slice_index roles (table.roles_of T7Two - 1))
+margin-more show less more h kind roles = asked-more show less more h kind (slice_index roles (table.roles_of kind - 1))
 
 -- ---- together
 

@@ -2,23 +2,16 @@
 use Rattle.std.proofs.Common.{◌≡◌, ℕ, ◌<◌, ◌≤◌, true, false, List, [], ◌∷◌, length, refl, ap, sym, subst, ◌∙◌, arith}
 use Rattle.std.specs.Prelude.{All, IsTrue, nat_lt, slice_index, unsigned_abs, ◌==◌}
 use Rattle.std.specs.List.{list_all}
-use Rattle.std.proofs.lemmas.Bool.{eqb-true, ltb-true, ltb-false, le-ltb}
-use Rattle.std.proofs.lemmas.List.Elements.{All-cons, All-nil}
+use Rattle.std.proofs.lemmas.Bool.{eqb-true, ltb-true, ltb-false, le-ltb, and_from, and_parts}
 use Rattle.rf_terms.specs.Kinds.{roles_of}
 use Rattle.rf_terms.specs.Forms.{value_of}
 use Rattle.rf_terms.specs.declared.kind.Kind.{Kind}
 use Rattle.rf_terms.proofs.KindLaws.{two_roles, four_roles}
 use Rattle.rf_log.specs.Case.{Case, IsPlan, are_distinct, are_together, carrier_of, freqs_at, is_broken, is_in_order, is_instance, margin_of}
-use Rattle.rf_show.proofs.ListLemmas.{and_true, both_true}
 use Rattle.rf_tighter.specs.Tighter.{IsTighter}
+use Rattle.rf_base.proofs.ListLaws.{all_below}
 
 -- ---- instances
-
-pub all_below : (n : ℕ) (roles : List ℕ) → list_all (λ c. nat_lt c n) roles ≡ true → All (λ c. c < n) roles
-all_below n [] h = All-nil (λ c. c < n)
-all_below n (c ∷ cs) h =
-    let parts = both_true (nat_lt c n) _ h in
-    All-cons (λ d. d < n) c cs (ltb-true c n parts.0) (all_below n cs parts.1)
 
 -- what an instance is, part by part
 pub record Parts (case : Case) (kind : Kind) (roles : List ℕ) : Type 0 where
@@ -30,14 +23,14 @@ pub record Parts (case : Case) (kind : Kind) (roles : List ℕ) : Type 0 where
 
 pub parts_of : (case : Case) (kind : Kind) (roles : List ℕ) → IsTrue (is_instance case kind roles) → Parts case kind roles
 parts_of case kind roles h =
-    let four = both_true _ _ h in
-    let three = both_true _ _ four.0 in
-    let two = both_true _ _ three.0 in
-    let one = both_true _ _ two.0 in
+    let four = and_parts _ _ h in
+    let three = and_parts _ _ four.0 in
+    let two = and_parts _ _ three.0 in
+    let one = and_parts _ _ two.0 in
     record { size = one.0; below = one.1; distinct = two.1; order = three.1; together = four.1 }
 
 pub instance_of : (case : Case) (kind : Kind) (roles : List ℕ) → Parts case kind roles → IsTrue (is_instance case kind roles)
-instance_of case kind roles p = and_true _ _ (and_true _ _ (and_true _ _ (and_true _ _ p.size p.below) p.distinct) p.order) p.together
+instance_of case kind roles p = and_from _ _ (and_from _ _ (and_from _ _ (and_from _ _ p.size p.below) p.distinct) p.order) p.together
 
 pub size_is : (case : Case) (kind : Kind) (roles : List ℕ) → Parts case kind roles → length roles ≡ roles_of kind
 size_is case kind roles p = eqb-true (length roles) (roles_of kind) p.size
@@ -66,7 +59,7 @@ same_freqs : (a b : Case) → ((c : ℕ) → c < length b.carriers → (carrier_
     → list_all (λ c. nat_lt c (length b.carriers)) roles ≡ true → freqs_at a roles at ≡ freqs_at b roles at
 same_freqs a b same at [] h = refl
 same_freqs a b same at (c ∷ cs) h =
-    let parts = both_true (nat_lt c (length b.carriers)) _ h in
+    let parts = and_parts (nat_lt c (length b.carriers)) _ h in
     ap (λ fs. slice_index fs (at c) ∷ freqs_at a cs at) (same c (ltb-true c (length b.carriers) parts.0))
     ∙ ap (λ xs. slice_index (carrier_of b c).freqs (at c) ∷ xs) (same_freqs a b same at cs parts.1)
 

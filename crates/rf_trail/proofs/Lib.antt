@@ -1,2 +1,2 @@
-pub mod TraceLemmas
-pub mod PieceLemmas
+pub mod TraceLaws
+mod PieceLemmas

@@ -1,20 +1,18 @@
 -- Pieces that are taken out one by one, and put back.
-use Rattle.std.proofs.Common.{◌≡◌, ℕ, ◌+◌, ◌-◌, ◌<◌, ◌≤◌, ◌==◌, List, [], ◌∷◌, ◌++◌, Bool, true, false, not, ◌&&◌, ◌||◌, length, take, drop, reverse, get_or, suc, refl, sym, ◌∙◌, ap, subst, arith}
-use Rattle.std.proofs.Common.{inl, inr}
-use Rattle.std.specs.Prelude.{nat_le, nat_lt, Some, slice_get}
+use Rattle.std.proofs.Common.{◌≡◌, ℕ, ◌+◌, ◌-◌, ◌<◌, ◌≤◌, ◌==◌, List, [], ◌∷◌, ◌++◌, Bool, true, false, not, ◌&&◌, ◌||◌, length, take, drop, reverse, get_or, suc, refl, sym, ◌∙◌, ap, subst}
+use Rattle.std.proofs.Common.{arith, inl, inr, nat_le, nat_lt, Some, slice_get, ltb-true, leb-true, eqb-true, length-append, length-drop, drop-drop, take-append-drop, append_assoc}
 use Rattle.std.specs.Option.{option_map}
-use Rattle.std.proofs.lemmas.Bool.{and_parts, ltb-true, leb-true, cases_Bool, cases_lt, cases_eq, eqb-true}
+use Rattle.std.proofs.lemmas.Bool.{and_parts, cases_Bool, cases_lt, cases_eq}
 use Rattle.std.proofs.lemmas.Bool.Decides.{nat_tests}
-use Rattle.std.proofs.lemmas.List.{reverse-append, length-reverse, length-append, length-drop, length-map, drop-map, drop-drop, take-append-drop, append_assoc, get_or-reverse}
+use Rattle.std.proofs.lemmas.List.{reverse-append, length-reverse, length-map, drop-map, get_or-reverse}
 use Rattle.std.proofs.lemmas.Option.{slice_get-get_or, slice_get-map}
 use Rattle.std.proofs.Math.Seq.{drop-append_seam, drop-cons}
 use Rattle.std.proofs.Math.Path.{fun_ext}
 use Rattle.rf_domain.specs.Indices.{between}
 use Rattle.rf_domain.specs.Sets.{size_of, sizes, has, without, with_all}
-use Rattle.rf_trail.specs.declared.entry.Entry.{Entry}
 use Rattle.rf_trail.specs.declared.piece.Piece.{Piece}
 use Rattle.rf_trail.specs.declared.step.Step.{Step}
-use Rattle.rf_trail.proofs.TraceLemmas.{reverse-take-drop}
+use Rattle.rf_trail.proofs.TraceLaws.{reverse-take-drop}
 use Rattle.rf_trail.specs.Trace.{has_of}
 use Rattle.rf_trail.specs.Pieces.{entries_of, left_of, AreFresh, ArePieces, Gains, Agree, StandsFor}
 

@@ -1,1 +1,1 @@
-pub mod PlainLaws
+mod PlainLaws

@@ -1,7 +1,7 @@
 -- Plain words ask for what they say, and nothing else can be asked.
-use Rattle.std.proofs.Common.{◌≡◌, ◌≤◌, ◌∙◌, ℕ, Bool, length, List, [], ◌∷◌, true, false, Option, Some, None, refl, sym, subst, option_map, inl, inr, codes, arith}
+use Rattle.std.proofs.Common.{◌≡◌, ◌≤◌, ◌∙◌, ℕ, length, List, [], ◌∷◌, true, false, Option, Some, None, refl, sym, subst, option_map, inl, inr, codes, arith}
 use Rattle.std.specs.Prelude.{◌==◌, ◌&&◌, nat_le, not}
-use Rattle.std.proofs.lemmas.Bool.{and_parts, cases_Bool}
+use Rattle.std.proofs.lemmas.Bool.{and_parts, cases_Bool, leb-true, le-leb}
 use Rattle.std.proofs.lemmas.Bool.Decides.{nat_tests}
 use Rattle.std.proofs.lemmas.Option.{same_Some}
 use Rattle.std.specs.Str.{bytes_eq}
@@ -14,6 +14,7 @@ use Rattle.rf_words.specs.declared.asked.Asked.TheVariants.{Session, Check, Audi
 use Rattle.rf_words.specs.declared.asked.TheConstants.{MAX_DEMO_LINES}
 use Rattle.rf_base.specs.Decimal.{is_digits, is_whole, number_of}
 use Rattle.rf_words.specs.Words.{app, asked_as, asked_by, demo_by, demo_of, files_of, if_taken, is_file_word, read_from, HasPlain, IsPlain}
+use mathlib.Core.Bool.{and-false}
 
 pub app_simple : is_simple app ≡ true
 unfolding clap_on_literals app
@@ -76,17 +77,13 @@ demo_read : (a b : ℕ) (seed count : Text) → (a == 45) ≡ false → (b == 45
 unfolding clap_on_literals app
 demo_read a b seed count ha hb = simp (ha, hb)
 
-and_false : (b : Bool) → (b && false) ≡ false
-and_false true = refl
-and_false false = refl
-
 no_digits : number_of [] ≡ None
 unfolding number_of is_whole is_digits
 no_digits = refl
 
 minus_no_number : (word : Text) → number_of (45 ∷ word) ≡ None
 unfolding number_of is_whole is_digits
-minus_no_number word = rw (and_false (not (length (45 ∷ word) == 0))) refl
+minus_no_number word = rw (and-false (not (length (45 ∷ word) == 0))) refl
 
 -- the first byte of a number is no `-`
 number_byte : (a n : ℕ) (word : Text) → number_of (a ∷ word) ≡ Some n → (a == 45) ≡ false
@@ -96,19 +93,13 @@ number_byte a n word is =
       | inr e ↦ e
     ]
 
-in_range : (n m : ℕ) → n ≤ m → nat_le n m ≡ true
-in_range n m few = grind (arith, nat_tests)
-
-within : (n m : ℕ) → nat_le n m ≡ true → n ≤ m
-within n m few = grind (arith, nat_tests)
-
 demo_asked : (first second : Text) (seed count : ℕ) → number_of first ≡ Some seed → number_of second ≡ Some count → count ≤ MAX_DEMO_LINES →
     asked_by (codes "demo" ∷ first ∷ second ∷ []) ≡ Some (Demo seed count)
 demo_asked [] second seed count hs hc few = let bad : ◌≡◌ {A = Option ℕ} None (Some seed) = sym no_digits ∙ hs in cc
 demo_asked (a ∷ first) [] seed count hs hc few = let bad : ◌≡◌ {A = Option ℕ} None (Some count) = sym no_digits ∙ hc in cc
 demo_asked (a ∷ first) (b ∷ second) seed count hs hc few =
     let ha = number_byte a seed first hs in let hb = number_byte b count second hc in
-    let made : demo_by (number_of (a ∷ first)) (number_of (b ∷ second)) ≡ Some (Demo seed count) = rw (hs, hc, in_range count MAX_DEMO_LINES few) refl in
+    let made : demo_by (number_of (a ∷ first)) (number_of (b ∷ second)) ≡ Some (Demo seed count) = rw (hs, hc, le-leb count MAX_DEMO_LINES few) refl in
     taken_asked _ (demo_taken a b first second ha hb) ∙ demo_read a b first second ha hb ∙ made
 
 -- plain words ask for what they say
@@ -149,7 +140,7 @@ demo_found first second (Some m) (Some n) asked hs hc is =
     elim (cases_Bool (nat_le n MAX_DEMO_LINES)) [
       | inl e ↦
           let it : Demo m n ≡ asked = same_Some _ _ (rw e at is) in
-          rw (← it) (codes "demo" ∷ first ∷ second ∷ [], (first, second, refl, hs, hc, within n MAX_DEMO_LINES e))
+          rw (← it) (codes "demo" ∷ first ∷ second ∷ [], (first, second, refl, hs, hc, leb-true n MAX_DEMO_LINES e))
       | inr e ↦ let bad : ◌≡◌ {A = Option Asked} None (Some asked) = rw e at is in cc
     ]
 

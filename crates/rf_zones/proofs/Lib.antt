@@ -1,8 +1,9 @@
-pub mod BitLemmas
-pub mod FilledLemmas
-pub mod MaskLemmas
-pub mod MinuteLemmas
-pub mod PairLemmas
-pub mod StandLemmas
-pub mod TimesLemmas
-pub mod ZonesLemmas
+pub mod BitLaws
+pub mod MaskLaws
+pub mod PairLaws
+pub mod SliceLaws
+pub mod StandLaws
+mod FilledLemmas
+mod MinuteLemmas
+mod TimesLemmas
+mod ZonesLemmas

@@ -7,13 +7,8 @@ use Rattle.rf_zones.specs.Times.{is_on, holds, is_interval}
 use Rattle.rf_zones.specs.Masks.{has_bits}
 use Rattle.rf_zones.specs.Slices.{some_below, on_at, share_minute, mask_at, is_slice}
 use Rattle.rf_zones.specs.Timed.{share_begin}
-use Rattle.rf_zones.proofs.BitLemmas.{mask_bits}
-
--- two tests that pass together are the same
-pub same_test : (a b : Bool) → (a ≡ true → b ≡ true) → (b ≡ true → a ≡ true) → a ≡ b
-same_test true b there back = sym (there refl)
-same_test false true there back = back refl
-same_test false false there back = refl
+use Rattle.rf_zones.proofs.BitLaws.{mask_bits}
+use Rattle.rf_base.proofs.BoolLaws.{same_test}
 
 pub some_below-at : (n k : ℕ) (test : ℕ → Bool) → k < n → test k ≡ true → some_below n test ≡ true
 unfolding some_below

@@ -1,10 +1,8 @@
-use Rattle.std.proofs.Common.{◌≡◌, ◌≢◌, ℕ, suc, zero, Bool, true, false, ◌+◌, ◌-◌, ◌<◌, ◌≤◌, List, [], ◌∷◌, ◌++◌, length, get_or, set, take, drop, replicate, nat_lt, cond, slice_get, Some, None, refl}
-use Rattle.std.proofs.Common.{ap, sym, ◌∙◌, arith, length-append}
+use Rattle.std.proofs.Common.{◌≡◌, ◌≢◌, ℕ, Bool, true, false, ◌+◌, ◌-◌, ◌<◌, ◌≤◌, List, [], ◌∷◌, ◌++◌, length, get_or, set, take, drop, replicate, nat_lt, cond, slice_get, Some, None, refl}
+use Rattle.std.proofs.Common.{ap, sym, ◌∙◌, arith, length-append, ne_eqb, length-take-le, set-set, length-drop, take-append-drop, drop_at}
 use Rattle.std.specs.List.{list_all, list_any, IsDistinct, position, position_or_len}
 use Rattle.std.specs.Cmp.Lexicographic.{nat_list_eq_equiv}
-use Rattle.std.proofs.lemmas.Bool.{ne_eqb}
-use Rattle.std.proofs.lemmas.Grind.{common_steps}
-use Rattle.std.proofs.lemmas.List.{length-take-le, set-set, set-get_or, length-replicate, length-drop, take-append-drop, get_or_append_left, get_or_at, length_push, drop_at}
+use Rattle.std.proofs.lemmas.List.{set-get_or, length-replicate, get_or_append_left, get_or_at, length_push}
 use Rattle.std.proofs.lemmas.List.Folds.{list_any_none}
 use Rattle.std.proofs.lemmas.Map.Keys.{IsDistinct-push, apart_from_distinct, IsDistinct-from_apart, IsDistinct-cons}
 use Rattle.rf_base.specs.Name.{same_name}
@@ -15,21 +13,12 @@ use Rattle.rf_zones.specs.declared.coupling.Coupling.{Coupling}
 use Rattle.rf_zones.specs.declared.coupling.Coupling.TheVariants.{Apart}
 use Rattle.rf_zones.specs.declared.zone_names.TheConstants.{MAX_ZONES}
 use Rattle.rf_zones.proofs.FilledLemmas.{all_apart, apart_all}
-use Rattle.rf_zones.proofs.PairLemmas.{pairs-next}
-
-pub get_left : {X : Type 0} (xs ys : List X) (k : ℕ) (x : X) → slice_get xs k ≡ Some x → slice_get (xs ++ ys) k ≡ Some x
-get_left [] ys k x h = cc
-get_left (y ∷ xs) ys zero x h = h
-get_left (y ∷ xs) ys (suc k) x h = get_left xs ys k x h
+use Rattle.rf_zones.proofs.PairLaws.{pairs-next}
+use Rattle.rf_base.proofs.ListLaws.{place_any, get_left}
 
 pub get_front : {X : Type 0} (xs ys : List X) (x : X) → 0 < length xs → slice_get (xs ++ ys) 0 ≡ Some x → slice_get xs 0 ≡ Some x
 get_front [] ys x some h = absurd (omega arith)
 get_front (y ∷ xs) ys x some h = h
-
--- a place is found where an element passes
-any_found : {X : Type 0} (p : X → Bool) (xs : List X) → nat_lt (position_or_len p xs) (length xs) ≡ list_any p xs
-any_found p [] = refl
-any_found p (x ∷ xs) = grind (arith, common_steps, any_found p xs)
 
 none_where_false : {X : Type 0} (b : Bool) (x : X) → cond b (Some x) None ≡ None → b ≡ false
 none_where_false true x h = cc
@@ -37,7 +26,7 @@ none_where_false false x h = refl
 
 -- a name that isn't found is none of the names
 pub no_zone : (zones : ZonesData) (name : List ℕ) → zone_of zones name ≡ None → list_any (same_name name) zones.names ≡ false
-no_zone zones name h = sym (any_found (same_name name) zones.names)
+no_zone zones name h = sym (place_any (same_name name) zones.names)
     ∙ none_where_false (nat_lt (position_or_len (same_name name) zones.names) (length zones.names)) (position_or_len (same_name name) zones.names) h
 
 pub IsZones-with_zone : (zones : ZonesData) (name : List ℕ) → IsZones zones → zone_of zones name ≡ None → length zones.names < MAX_ZONES → IsZones (with_zone zones name)
@@ -69,7 +58,7 @@ distinct-last names name h =
     let at_k = get_or_append_left names (name ∷ []) d k within in
     let at_last = get_or_at names name [] d (length names) refl in
     nat_list_eq_equiv.symm name (get_or names k d) ∙ (rw (at_k, at_last) at whole)) in
-    rw (any_found (same_name name) names ∙ apart) refl
+    rw (place_any (same_name name) names ∙ apart) refl
 
 pub IsZones-front : (zones new : ZonesData) (name : List ℕ) → IsZones zones → zones.names ≡ new.names ++ name ∷ [] → 1 < length zones.names →
     new.couplings ≡ take (length zones.couplings - length new.names) zones.couplings → IsZones new

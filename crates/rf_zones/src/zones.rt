@@ -2,7 +2,8 @@
 
 ghost use Rattle.std.specs.Prelude.{◌≡◌, ◌≢◌, ℕ, ◌<◌, ◌≤◌, ◌&&◌, nat_eq, nat_lt, if◌then◌else◌, true, None, length, slice_get, Some, position};
 ghost use Rattle.rf_base.specs.Name.{same_name};
-ghost use Rattle.rf_zones.specs.Zones.{ZonesData, IsMutual, IsZones, coupling_of, pair_place, pairs, first_zones, heard, is_last_free, reach, same_pair, with_coupling, with_zone, without_last, zone_of};
+ghost use Rattle.rf_zones.specs.Zones.{ZonesData, IsMutual, IsZones, coupling_of, pair_place, pairs, first_zones, heard, is_last_free};
+ghost use Rattle.rf_zones.specs.Zones.{reach, same_pair, with_coupling, with_zone, without_last, zone_of};
 ghost use Rattle.rf_zones.specs.declared.coupling.Coupling.TheVariants.{Apart, Coupled, Far};
 
 use crate::coupling::Coupling;
@@ -108,7 +109,8 @@ impl Zones {
         ensures added { self.new ≡ with_zone self.old name }
         ensures free { is_last_free self.new ≡ true }
         ensures back { without_last self.new ≡ self.old }
-        ensures stand { (x y : ℕ) → x < length self.new.names → y < length self.new.names → coupling_of self.new x y ≡ (if nat_eq x y then Coupled else (if nat_lt x (length self.old.names) && nat_lt y (length self.old.names) then coupling_of self.old x y else Apart)) }
+        ensures stand { (x y : ℕ) → x < length self.new.names → y < length self.new.names →
+            coupling_of self.new x y ≡ (if nat_eq x y then Coupled else (if nat_lt x (length self.old.names) && nat_lt y (length self.old.names) then coupling_of self.old x y else Apart)) }
     {
         let count = self.count();
         self.names.push(name);
@@ -134,7 +136,8 @@ impl Zones {
         requires b_in { b < length self.old.names }
         ensures changed { self.new ≡ with_coupling self.old a b coupling }
         ensures back { with_coupling self.new a b (coupling_of self.old a b) ≡ self.old }
-        ensures stand { (x y : ℕ) → x < length self.old.names → y < length self.old.names → coupling_of self.new x y ≡ (if nat_eq x y then Coupled else (if same_pair a b x y then coupling else coupling_of self.old x y)) }
+        ensures stand { (x y : ℕ) → x < length self.old.names → y < length self.old.names →
+            coupling_of self.new x y ≡ (if nat_eq x y then Coupled else (if same_pair a b x y then coupling else coupling_of self.old x y)) }
     {
         if a != b {
             self.couplings.set(pair_place(a, b), coupling);

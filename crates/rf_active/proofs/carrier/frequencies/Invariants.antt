@@ -1,5 +1,4 @@
-use Rattle.std.proofs.Common.{◌≡◌, ◌≤◌, take}
-use Rattle.std.specs.Prelude.{All}
+use Rattle.std.proofs.Common.{◌≡◌, ◌≤◌, take, All}
 use Rattle.rf_terms.specs.Forms.{AreFrequencies}
 use Rattle.rf_profiles.specs.Channels as profile
 use Rattle.rf_active.proofs.carrier.frequencies.Given as goal

@@ -1,5 +1,4 @@
-use Rattle.std.proofs.Common.{◌≡◌, ◌<◌, ℕ, true}
-use Rattle.std.specs.Prelude.{None}
+use Rattle.std.proofs.Common.{◌≡◌, ◌<◌, ℕ, true, None}
 use Rattle.rf_audit.specs.Left.{fixed_at, in_sets}
 use Rattle.rf_audit.specs.Looks.{HasTwo}
 use Rattle.rf_audit.proofs.closing.survey.Given as goal

@@ -8,6 +8,5 @@ use Rattle.rf_audit.proofs.follow.audit.Goals as goal
 
 pub returns-clause-started : goal.returns-clause-started
 returns-clause-started c = λ n started.
-    let over = c.as_slice.ensures.value ∙ c.in_ok-lines.ensures.lines in
     IfOk-weaker c.follow.result _ _ (λ found is. c.started_is_honest.ensures (case_of c.args.show.now) n (lines_over c.args.show.now c.args.log.now) found started
-    (subst (λ (xs : List LogLine). IsAudited (case_of c.args.show.now) xs found) over is)) c.follow.ensures
+    (subst (λ (xs : List LogLine). IsAudited (case_of c.args.show.now) xs found) (c.as_slice.ensures.value ∙ c.in_ok-lines.ensures.lines) is)) c.follow.ensures

@@ -1,5 +1,4 @@
-use Rattle.std.proofs.Common.{◌≡◌, ◌<◌, ◌-◌, ℕ, List, length}
-use Rattle.std.specs.Prelude.{slice_index}
+use Rattle.std.proofs.Common.{◌≡◌, ◌<◌, ◌-◌, ℕ, List, length, slice_index}
 use Rattle.rf_terms.specs.Kinds.{roles_of}
 use Rattle.rf_show.specs.Case.{case_of}
 use Rattle.rf_audit.specs.Left.{Falls, AreFixed, IsAlong, IsCleared, in_sets}

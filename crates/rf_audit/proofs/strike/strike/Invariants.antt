@@ -1,5 +1,4 @@
-use Rattle.std.proofs.Common.{◌<◌, ℕ, length}
-use Rattle.std.specs.Prelude.{slice_index}
+use Rattle.std.proofs.Common.{◌<◌, ℕ, length, slice_index}
 use Rattle.rf_show.specs.Case.{case_of}
 use Rattle.rf_audit.specs.Left.{Falls, IsClearedAt}
 use Rattle.rf_audit.proofs.strike.strike.Given as goal

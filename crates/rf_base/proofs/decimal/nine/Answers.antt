@@ -1,5 +1,5 @@
 use Rattle.std.proofs.Common.{refl, arith, replicate}
-use Rattle.rf_base.proofs.DecimalLemmas.{padded_is, padded_whole}
+use Rattle.rf_base.proofs.DecimalLaws.{padded_is, padded_whole}
 use Rattle.rf_base.proofs.decimal.nine.Goals as goal
 
 pub returns-clause-value : goal.returns-clause-value

@@ -1,7 +1,6 @@
-use Rattle.std.proofs.Common.{◌≡◌, arith, take, ap}
-use Rattle.std.proofs.lemmas.List.{take_all}
+use Rattle.std.proofs.Common.{◌≡◌, arith, take, ap, take_all}
 use Rattle.std.specs.Str.Parse.{digits_value}
-use Rattle.rf_base.proofs.DecimalLemmas.{number_step, number_short}
+use Rattle.rf_base.proofs.DecimalLaws.{number_step, number_short}
 use Rattle.rf_base.proofs.decimal.number.Goals as goal
 
 pub overflow_mul-value : goal.overflow_mul-value

@@ -1,6 +1,6 @@
 use Rattle.std.proofs.Common.{◌≡◌, true, rules}
 use Rattle.rf_base.specs.Decimal.{is_whole}
-use Rattle.rf_base.proofs.DecimalLemmas.{whole_parts}
+use Rattle.rf_base.proofs.DecimalLaws.{whole_parts}
 use Rattle.rf_base.proofs.decimal.read_number.Goals as goal
 
 pub bounds-word-0 : goal.bounds-word-0

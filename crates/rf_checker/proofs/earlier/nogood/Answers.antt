@@ -1,5 +1,4 @@
-use Rattle.std.proofs.Common.{◌∙◌, sym, ap, arith}
-use Rattle.std.specs.Prelude.{Some}
+use Rattle.std.proofs.Common.{◌∙◌, sym, ap, arith, Some}
 use Rattle.rf_log.specs.Hints.{conds_in}
 use Rattle.rf_checker.proofs.EarlierLemmas.{nogood_zero, nogood_past, nogood_is, conds_none}
 use Rattle.rf_checker.proofs.earlier.nogood.Goals as goal

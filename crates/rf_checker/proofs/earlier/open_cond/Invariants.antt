@@ -1,5 +1,4 @@
-use Rattle.std.proofs.Common.{◌≡◌, take}
-use Rattle.std.specs.Prelude.{IfSome}
+use Rattle.std.proofs.Common.{◌≡◌, take, IfSome}
 use Rattle.std.specs.Option.{option_to_list}
 use Rattle.rf_log.specs.Hints.{left_open}
 use Rattle.rf_show.specs.Case.{case_of}

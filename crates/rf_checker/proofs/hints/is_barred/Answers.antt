@@ -1,7 +1,7 @@
 use Rattle.std.proofs.Common.{◌∙◌, sym, arith}
 use Rattle.rf_show.specs.Case.{case_of}
-use Rattle.rf_checker.proofs.BoxLemmas.{barred_not, barred_all}
 use Rattle.rf_checker.proofs.hints.is_barred.Goals as goal
+use Rattle.rf_log.proofs.BoxLaws.{barred_not, barred_all}
 
 pub returns-then-k-hi : goal.returns-then-k-hi
 returns-then-k-hi c = sym (barred_all (case_of c.args.show.now) c.args.c c.args.lo c.args.hi (λ j from to. c.loop-k.invariant j from (omega arith)))

@@ -1,5 +1,4 @@
-use Rattle.std.proofs.Common.{◌≡◌, take, true, length}
-use Rattle.std.specs.Prelude.{nat_lt}
+use Rattle.std.proofs.Common.{◌≡◌, take, true, length, nat_lt}
 use Rattle.std.specs.List.{list_all}
 use Rattle.rf_show.specs.Case.{case_of}
 use Rattle.rf_checker.proofs.line.are_known.Given as goal

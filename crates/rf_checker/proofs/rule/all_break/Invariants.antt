@@ -1,5 +1,4 @@
-use Rattle.std.proofs.Common.{◌≡◌, ℕ, ◌≤◌, ◌<◌, true, length, take}
-use Rattle.std.specs.Prelude.{slice_set}
+use Rattle.std.proofs.Common.{◌≡◌, ℕ, ◌≤◌, ◌<◌, true, length, take, slice_set}
 use Rattle.rf_terms.specs.Forms.{AreFrequencies}
 use Rattle.rf_log.specs.Case as case
 use Rattle.rf_show.specs.Case.{case_of}

@@ -1,5 +1,4 @@
-use Rattle.std.proofs.Common.{◌≡◌, ◌==◌, ◌||◌, take, true}
-use Rattle.std.specs.Prelude.{is_some}
+use Rattle.std.proofs.Common.{◌≡◌, ◌==◌, ◌||◌, take, true, is_some}
 use Rattle.std.specs.List.{list_all}
 use Rattle.rf_log.specs.Box as box
 use Rattle.rf_show.specs.Case.{case_of}

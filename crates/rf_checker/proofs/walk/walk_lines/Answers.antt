@@ -1,5 +1,4 @@
-use Rattle.std.proofs.Common.{◌≡◌, ◌<◌, ◌+◌, ◌∙◌, Bool, List, refl, sym, ap, subst, arith, length, take, drop, reverse, get_or, not}
-use Rattle.std.specs.Prelude.{Some, None, if◌then◌else◌}
+use Rattle.std.proofs.Common.{◌≡◌, ◌<◌, ◌+◌, ◌∙◌, Bool, List, refl, sym, ap, subst, arith, length, take, drop, reverse, get_or, not, Some, None, if◌then◌else◌}
 use Rattle.std.specs.List.{All}
 use Rattle.std.proofs.lemmas.List.Sums.{count_by_more_yes, count_by_more_no}
 use Rattle.rf_log.specs.declared.cond.Cond.{Cond}
@@ -9,7 +8,7 @@ use Rattle.rf_log.specs.Walk.{Tree, walk, cause_of, tree_after, is_branch}
 use Rattle.rf_show.specs.Case.{case_of}
 use Rattle.rf_checker.specs.Boxes.{Fits}
 use Rattle.rf_checker.specs.Lines.{HasTargets, TreeFits}
-use Rattle.rf_checker.proofs.CheckLemmas.{walk_step, walk_refused, tests_passed, lines_push, grown_fits, path_fits, none_of, if_not}
+use Rattle.rf_checker.proofs.CheckLaws.{walk_step, walk_refused, tests_passed, lines_push, grown_fits, path_fits, none_of, if_not}
 use Rattle.rf_checker.proofs.walk.walk_lines.Goals as goal
 use Rattle.rf_checker.proofs.walk.walk_lines.Goals.{then-is_branch, else-is_branch}
 

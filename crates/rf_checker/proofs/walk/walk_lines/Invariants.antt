@@ -1,5 +1,4 @@
-use Rattle.std.proofs.Common.{◌≡◌, ◌≤◌, take, drop, reverse}
-use Rattle.std.specs.Prelude.{Some, None, if◌then◌else◌}
+use Rattle.std.proofs.Common.{◌≡◌, ◌≤◌, take, drop, reverse, Some, None, if◌then◌else◌}
 use Rattle.std.specs.List.{count_by}
 use Rattle.rf_log.specs.Walk.{walk, verdict_of, is_branch}
 use Rattle.rf_show.specs.Case.{case_of}

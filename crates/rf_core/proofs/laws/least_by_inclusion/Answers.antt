@@ -1,5 +1,4 @@
-use Rattle.std.proofs.Common.{◌≡◌, true, false, Bool, [], ap, ◌∙◌}
-use Rattle.std.specs.Prelude.{slice_index_or}
+use Rattle.std.proofs.Common.{◌≡◌, true, false, Bool, [], ap, ◌∙◌, slice_index_or}
 use Rattle.rf_log.specs.Case.{is_among}
 use Rattle.rf_show.specs.Case.{case_of}
 use Rattle.rf_tighter.specs.Locked.{kept}

@@ -1,5 +1,4 @@
-use Rattle.std.proofs.Common.{List, ap, sym, ◌∙◌, arith}
-use Rattle.std.specs.Prelude.{length, slice_get}
+use Rattle.std.proofs.Common.{List, ap, sym, ◌∙◌, arith, length, slice_get}
 use Rattle.rf_show.specs.After.{edited}
 use Rattle.rf_show.specs.declared.edit.Edit.TheVariants.{Unlock}
 use Rattle.rf_show.specs.Show.{has_carrier}

@@ -1,8 +1,8 @@
-use Rattle.std.proofs.Common.{arith, suc, ◌∙◌}
+use Rattle.std.proofs.Common.{arith, suc, ◌∙◌, subst}
 use Rattle.rf_decide.specs.Decisions.{no_call, and_call, IsDecision}
-use Rattle.std.proofs.Common.{subst}
-use Rattle.rf_core.proofs.SparingLemmas.{one-before, stuck-first}
+use Rattle.rf_core.proofs.SparingLemmas.{stuck-first}
 use Rattle.rf_core.proofs.sparing.least.Goals as goal
+use Rattle.rf_decide.proofs.CallLaws.{one-before}
 
 pub returns-in_err-keep-clause-calls : goal.returns-in_err-keep-clause-calls
 returns-in_err-keep-clause-calls g c = (0, omega arith, no_call)

@@ -1,5 +1,4 @@
-use Rattle.std.proofs.Common.{◌≡◌, Some, [], ◌<◌, ℕ, List, length, remove, arith, ap, sym, subst, ◌∙◌}
-use Rattle.std.specs.Prelude.{slice_index_or}
+use Rattle.std.proofs.Common.{◌≡◌, Some, [], ◌<◌, ℕ, List, length, remove, arith, ap, sym, subst, ◌∙◌, slice_index_or}
 use Rattle.rf_log.specs.Case.{IsPlan}
 use Rattle.rf_log.specs.Solved.{spent}
 use Rattle.rf_show.specs.Case.{case_of}

@@ -1,5 +1,4 @@
-use Rattle.std.proofs.Common.{◌≡◌}
-use Rattle.std.specs.Prelude.{string_bytes}
+use Rattle.std.proofs.Common.{◌≡◌, string_bytes}
 use Rattle.rf_decide.proofs.PlanTexts.{lines_below}
 use Rattle.rf_decide.proofs.texts.add_plan.Given as goal
 

@@ -1,5 +1,5 @@
 use Rattle.rf_solving.specs.LogWriter.{HasRoles}
-use Rattle.rf_solving.proofs.ListLemmas.{all_more, all_whole}
+use Rattle.rf_solving.proofs.LinesLaws.{all_more, all_whole}
 use Rattle.rf_decide.proofs.writable.have_roles.Goals as goal
 
 pub loop-hint-preserved : goal.loop-hint-preserved

@@ -1,5 +1,4 @@
-use Rattle.std.proofs.Common.{take}
-use Rattle.std.specs.Prelude.{All}
+use Rattle.std.proofs.Common.{take, All}
 use Rattle.rf_solving.specs.LogWriter.{HasRoles}
 use Rattle.rf_decide.proofs.writable.have_roles.Given as goal
 

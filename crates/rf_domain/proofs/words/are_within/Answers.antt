@@ -1,5 +1,4 @@
-use Rattle.std.proofs.Common.{sym, arith}
-use Rattle.std.proofs.lemmas.Bool.{true≢false}
+use Rattle.std.proofs.Common.{sym, arith, true≢false}
 use Rattle.rf_domain.proofs.Within.{word_apart}
 use Rattle.rf_domain.proofs.words.are_within.Goals as goal
 

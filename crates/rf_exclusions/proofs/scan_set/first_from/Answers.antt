@@ -1,5 +1,4 @@
-use Rattle.std.proofs.Common.{rules, nat_lt, get_or, arith}
-use Rattle.std.proofs.lemmas.Bool.{ltb-true, ltb-false}
+use Rattle.std.proofs.Common.{rules, nat_lt, get_or, arith, ltb-true, ltb-false}
 use Rattle.std.proofs.lemmas.List.Sorted.{IsPartitionedBy-ltb, IsPartitionPoint-from_clause}
 use Rattle.rf_exclusions.proofs.PointLemmas.{rises}
 use Rattle.rf_exclusions.proofs.scan_set.first_from.Goals as goal

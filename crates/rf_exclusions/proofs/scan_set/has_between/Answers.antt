@@ -1,5 +1,4 @@
-use Rattle.std.proofs.Common.{◌∙◌, length}
-use Rattle.std.proofs.lemmas.Bool.{le-ltb}
+use Rattle.std.proofs.Common.{◌∙◌, length, le-ltb}
 use Rattle.rf_exclusions.proofs.PointLemmas.{first_tells, none_tells}
 use Rattle.rf_exclusions.proofs.scan_set.has_between.Goals as goal
 

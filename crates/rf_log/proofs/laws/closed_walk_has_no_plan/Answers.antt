@@ -1,5 +1,4 @@
-use Rattle.std.proofs.Common.{[], refl, inl}
-use Rattle.std.specs.Prelude.{Some}
+use Rattle.std.proofs.Common.{[], refl, inl, Some}
 use Rattle.rf_log.proofs.Ahead.{walk-sound, nothing-right}
 use Rattle.rf_log.proofs.laws.closed_walk_has_no_plan.Goals as goal
 

@@ -1,7 +1,7 @@
 use Rattle.std.proofs.Common.{arith, suc}
 use Rattle.rf_decide.specs.Decisions.{no_call, and_call}
-use Rattle.rf_margin.proofs.HalvingLemmas.{one-before}
 use Rattle.rf_margin.proofs.bisection.decided.Goals as goal
+use Rattle.rf_decide.proofs.CallLaws.{one-before}
 
 pub returns-in_err-plan-clause-calls : goal.returns-in_err-plan-clause-calls
 returns-in_err-plan-clause-calls g c = (1, omega arith, and_call no_call c.decide.ensures.asked)

@@ -2,7 +2,7 @@ use Rattle.std.proofs.Common.{ℕ, Bool, ◌+◌, subst}
 use Rattle.rf_propagate.specs.Laws.{same}
 use Rattle.rf_trail.specs.Trace.{has_of}
 use Rattle.rf_propagate.specs.Openings.{IsNextOpen}
-use Rattle.rf_propagate.proofs.OpeningLemmas.{one_at}
+use Rattle.rf_propagate.proofs.OpeningLaws.{one_at}
 use Rattle.rf_nogoods.proofs.RemovalLemmas.{two_done, one_done}
 use Rattle.rf_nogoods.proofs.removal.take_out.Goals as goal
 

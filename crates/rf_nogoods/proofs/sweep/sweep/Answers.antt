@@ -1,12 +1,11 @@
-use Rattle.std.proofs.Common.{ℕ, length, refl, ◌∙◌, ap, subst, arith}
-use Rattle.std.specs.Prelude.{slice_set, slice_index_or}
+use Rattle.std.proofs.Common.{ℕ, length, refl, ◌∙◌, ap, subst, arith, slice_set, slice_index_or}
 use Rattle.std.proofs.lemmas.List.{set-get_or}
 use Rattle.rf_log.specs.Hints.{Line}
 use Rattle.rf_trail.specs.Trace.{box_of}
 use Rattle.rf_propagate.specs.Laws.{same}
 use Rattle.rf_propagate.proofs.BothLaws.{grows_on}
 use Rattle.rf_nogoods.specs.Removals.{AreDone}
-use Rattle.rf_nogoods.proofs.SweepLemmas.{swept_none, swept_more, item_found, item_is}
+use Rattle.rf_nogoods.proofs.SweepLaws.{swept_none, swept_more, item_found, item_is}
 use Rattle.rf_nogoods.proofs.sweep.sweep.Goals as goal
 
 pub loop-place-init : goal.loop-place-init

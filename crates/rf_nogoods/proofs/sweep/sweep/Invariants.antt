@@ -1,9 +1,8 @@
-use Rattle.std.proofs.Common.{◌≡◌, List}
-use Rattle.std.specs.Prelude.{All}
+use Rattle.std.proofs.Common.{◌≡◌, List, All}
 use Rattle.rf_log.specs.Case.{Case, counts_of}
 use Rattle.rf_log.specs.Hints.{Line}
 use Rattle.rf_nogoods.specs.Removals.{IsFound}
-use Rattle.rf_nogoods.proofs.SweepLemmas.{IsSwept}
+use Rattle.rf_nogoods.proofs.SweepLaws.{IsSwept}
 use Rattle.rf_nogoods.proofs.sweep.sweep.Given as goal
 
 abbrev pub invariant-loop-place : goal.invariant-loop-place

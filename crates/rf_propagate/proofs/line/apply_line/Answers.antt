@@ -1,11 +1,9 @@
-use Rattle.std.proofs.Common.{◌∙◌, ap, sym}
-use Rattle.std.specs.Prelude.{Some}
+use Rattle.std.proofs.Common.{◌∙◌, ap, sym, refl, Some}
 use Rattle.rf_log.specs.Box.{Box}
 use Rattle.rf_log.specs.Hints.{by_open}
 use Rattle.rf_domain.specs.Sets.{has}
-use Rattle.rf_propagate.proofs.LineLemmas.{none_open, one_open, two_open, low_of}
-use Rattle.rf_propagate.proofs.OpeningLemmas.{one_at}
-use Rattle.std.proofs.Common.{refl}
+use Rattle.rf_propagate.proofs.LineLaws.{none_open, one_open, two_open, low_of}
+use Rattle.rf_propagate.proofs.OpeningLaws.{one_at}
 use Rattle.rf_propagate.proofs.line.apply_line.Goals as goal
 
 pub returns-in_default-clause-works : goal.returns-in_default-clause-works

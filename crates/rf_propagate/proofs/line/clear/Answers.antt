@@ -1,5 +1,5 @@
 use Rattle.std.proofs.Common.{arith}
-use Rattle.rf_propagate.proofs.LineLemmas.{clear_more, clear_same}
+use Rattle.rf_propagate.proofs.LineLaws.{clear_more, clear_same}
 use Rattle.rf_propagate.proofs.line.clear.Goals as goal
 
 pub loop-carrier-preserved-then-size-eq0 : goal.loop-carrier-preserved-then-size-eq0

@@ -1,4 +1,4 @@
-use Rattle.rf_propagate.proofs.LineLemmas.{IsClearTo}
+use Rattle.rf_propagate.proofs.LineLaws.{IsClearTo}
 use Rattle.rf_propagate.proofs.line.clear.Given as goal
 
 abbrev pub invariant-loop-carrier : goal.invariant-loop-carrier

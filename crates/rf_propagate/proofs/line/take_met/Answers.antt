@@ -1,7 +1,7 @@
 use Rattle.std.proofs.Common.{◌∙◌, ℕ, Bool, ap, sym}
 use Rattle.rf_domain.specs.Sets as sets
 use Rattle.rf_domain.specs.Sets.{has}
-use Rattle.rf_propagate.proofs.LineLemmas.{met_inside, met_outside}
+use Rattle.rf_propagate.proofs.LineLaws.{met_inside, met_outside}
 use Rattle.rf_propagate.proofs.line.take_met.Goals as goal
 
 pub returns-then-cond-clause-taken : goal.returns-then-cond-clause-taken

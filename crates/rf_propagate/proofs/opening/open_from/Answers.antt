@@ -1,6 +1,6 @@
 use Rattle.std.proofs.Common.{arith}
 use Rattle.rf_domain.specs.Sets.{has}
-use Rattle.rf_propagate.proofs.OpeningLemmas.{hold_more, all_held, holds_at}
+use Rattle.rf_propagate.proofs.OpeningLaws.{hold_more, all_held, holds_at}
 use Rattle.rf_propagate.proofs.opening.open_from.Goals as goal
 
 pub loop-place-preserved : goal.loop-place-preserved

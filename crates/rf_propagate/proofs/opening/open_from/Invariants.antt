@@ -1,5 +1,5 @@
 use Rattle.rf_domain.specs.Sets.{has}
-use Rattle.rf_propagate.proofs.OpeningLemmas.{HoldBetween}
+use Rattle.rf_propagate.proofs.OpeningLaws.{HoldBetween}
 use Rattle.rf_propagate.proofs.opening.open_from.Given as goal
 
 abbrev pub invariant-loop-place : goal.invariant-loop-place

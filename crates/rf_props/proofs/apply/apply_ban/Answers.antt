@@ -1,6 +1,6 @@
 use Rattle.std.proofs.Common.{arith}
 use Rattle.rf_problem.specs.Problem.{case_of}
-use Rattle.rf_problem.proofs.CaseLemmas.{count_is}
+use Rattle.rf_problem.proofs.CaseLaws.{count_is}
 use Rattle.rf_props.proofs.ApplyLemmas.{range_carrier}
 use Rattle.rf_props.proofs.apply.apply_ban.Goals as goal
 

@@ -1,8 +1,7 @@
+use Rattle.std.proofs.Common.{sym, subst, ℕ, List, [], ◌∷◌, get_or, length, take, ◌<◌, All}
 use Rattle.rf_terms.specs.Kinds.{roles_of}
-use Rattle.std.proofs.Common.{sym, subst, ℕ, List, [], ◌∷◌, get_or, length, take, ◌<◌}
-use Rattle.std.specs.Prelude.{All}
 use Rattle.rf_problem.specs.Problem.{case_of}
-use Rattle.rf_problem.proofs.CaseLemmas.{count_is}
+use Rattle.rf_problem.proofs.CaseLaws.{count_is}
 use Rattle.rf_props.proofs.ApplyLemmas.{four, known_roles}
 use Rattle.rf_props.proofs.apply.apply_rule.Goals as goal
 

@@ -1,5 +1,4 @@
-use Rattle.std.proofs.Common.{ℕ, sym, ◌∙◌, subst}
-use Rattle.std.proofs.lemmas.Bool.{true≢false}
+use Rattle.std.proofs.Common.{ℕ, sym, ◌∙◌, subst, true≢false}
 use Rattle.rf_problem.specs.Problem.{case_of}
 use Rattle.rf_propagate.specs.Applied.{AreRolesIn}
 use Rattle.rf_props.proofs.ApplyLemmas.{roles_in, carriers_in, rest_zero}

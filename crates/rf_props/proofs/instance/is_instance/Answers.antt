@@ -1,6 +1,6 @@
 use Rattle.std.proofs.Common.{◌∙◌, sym}
 use Rattle.rf_problem.specs.Problem.{case_of}
-use Rattle.rf_problem.proofs.CaseLemmas.{count_is}
+use Rattle.rf_problem.proofs.CaseLaws.{count_is}
 use Rattle.rf_props.proofs.InstanceLemmas.{instance_by}
 use Rattle.rf_props.proofs.instance.is_instance.Goals as goal
 

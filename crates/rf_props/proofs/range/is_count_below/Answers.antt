@@ -1,5 +1,4 @@
-use Rattle.std.proofs.Common.{◌∙◌, ◌-◌, ◌<◌, get_or, sym, arith}
-use Rattle.std.proofs.lemmas.Bool.{leb-true, leb-false}
+use Rattle.std.proofs.Common.{◌∙◌, ◌-◌, ◌<◌, get_or, sym, arith, leb-true, leb-false}
 use Rattle.rf_props.proofs.RangeLemmas.{below_at}
 use Rattle.rf_props.proofs.range.is_count_below.Goals as goal
 use Rattle.rf_props.proofs.range.is_count_below.Goals.{then-count-gt0, else-count-gt0}

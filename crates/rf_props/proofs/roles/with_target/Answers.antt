@@ -1,5 +1,4 @@
-use Rattle.std.proofs.Common.{◌∙◌, arith}
-use Rattle.std.proofs.lemmas.List.{take_all, length-drop}
+use Rattle.std.proofs.Common.{◌∙◌, arith, take_all, length-drop}
 use Rattle.rf_props.proofs.RoleLemmas.{written_is}
 use Rattle.rf_props.proofs.roles.with_target.Goals as goal
 

@@ -1,5 +1,5 @@
 use Rattle.std.proofs.Common.{arith}
-use Rattle.rf_domain.proofs.Counting.{count_bound}
+use Rattle.rf_domain.proofs.CountLaws.{count_bound}
 use Rattle.rf_props.specs.Sweeps.{has_at_most_one}
 use Rattle.rf_props.proofs.SingleLemmas.{fixed_more, fixed_same}
 use Rattle.rf_props.proofs.single.count_fixed.Goals as goal

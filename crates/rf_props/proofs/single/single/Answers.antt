@@ -1,15 +1,14 @@
-use Rattle.std.proofs.Common.{◌≡◌, ◌<◌, length, ap, arith, get_or}
-use Rattle.std.specs.Prelude.{Some}
+use Rattle.std.proofs.Common.{◌≡◌, ◌<◌, length, ap, arith, get_or, Some}
 use Rattle.std.proofs.lemmas.List.{length-map}
 use Rattle.rf_domain.specs.Sets.{has}
 use Rattle.rf_log.specs.Case.{count_of}
 use Rattle.rf_log.specs.Box.{only_index}
 use Rattle.rf_problem.specs.Problem.{case_of}
-use Rattle.rf_problem.proofs.CaseLemmas.{count_is}
-use Rattle.rf_props.proofs.CountLemmas.{counts_length}
+use Rattle.rf_problem.proofs.CaseLaws.{count_is}
 use Rattle.rf_props.proofs.SingleLemmas.{single_of, many_of, single_is}
 use Rattle.rf_props.proofs.single.single.Goals as goal
 use Rattle.rf_props.proofs.single.single.Goals.{In-Some}
+use Rattle.rf_log.proofs.CaseLaws.{counts_length}
 
 pub only-requires : goal.only-requires
 only-requires c =

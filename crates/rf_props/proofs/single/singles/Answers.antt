@@ -1,5 +1,4 @@
-use Rattle.std.proofs.Common.{subst, length, take, List, ℕ}
-use Rattle.std.specs.Prelude.{MatchOption}
+use Rattle.std.proofs.Common.{subst, length, take, List, ℕ, MatchOption}
 use Rattle.rf_log.specs.Box.{Box}
 use Rattle.rf_problem.specs.Problem.{case_of}
 use Rattle.rf_props.specs.Sweeps.{AreSingle, HaveMany}

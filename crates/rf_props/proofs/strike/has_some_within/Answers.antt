@@ -1,19 +1,18 @@
-use Rattle.std.proofs.Common.{FitsSigned, rules, ◌≡◌, ◌∙◌, ℕ, Bool, true, false, T, ℤ, pos, to_z, of_z, w64, length, refl, sym, ap, subst, arith}
-use Rattle.std.specs.Prelude.{◌<ℤ◌}
+use Rattle.std.proofs.Common.{FitsSigned, rules, ◌≡◌, ◌∙◌, ℕ, Bool, true, false, T, ℤ, pos, to_z, of_z, w64, length, refl, sym, ap, subst, arith, ◌<ℤ◌, true≢false}
 use Rattle.std.specs.Int.Signed.{le_z}
-use Rattle.std.proofs.lemmas.Bool.{true≢false}
 use Rattle.std.proofs.lemmas.Int.{by_lt_z, to_z-of_z}
 use Rattle.std.proofs.lemmas.List.{length-map}
 use Rattle.rf_problem.specs.Problem.{case_of}
-use Rattle.rf_problem.proofs.CaseLemmas.{count_is}
-use Rattle.rf_props.proofs.CountLemmas.{counts_length}
+use Rattle.rf_problem.proofs.CaseLaws.{count_is}
 use Rattle.rf_props.proofs.LiveLemmas.{known_at, none_from, none_next, none_at_ends}
 use Rattle.rf_props.proofs.strike.has_some_within.Goals as goal
+use Rattle.rf_log.proofs.CaseLaws.{counts_length}
 
 pub next-requires : goal.next-requires
 next-requires c =
     let sets = c.domains.result.now in
-    omega (arith, ap length c.domains.ensures.sizes, length-map sets length, ap length c.requires.counts, counts_length (case_of c.args.problem.now), count_is c.args.problem.now, c.requires.carrier)
+    omega
+    (arith, ap length c.domains.ensures.sizes, length-map sets length, ap length c.requires.counts, counts_length (case_of c.args.problem.now), count_is c.args.problem.now, c.requires.carrier)
 
 pub bounds-freqs-k : goal.bounds-freqs-k
 bounds-freqs-k c =

@@ -1,20 +1,18 @@
-use Rattle.std.proofs.Common.{◌≡◌, ◌∙◌, ◌+◌, ◌<◌, ℕ, List, length, take, refl, sym, ap, subst, arith, false, true}
-use Rattle.std.specs.Prelude.{insert}
+use Rattle.std.proofs.Common.{◌≡◌, ◌∙◌, ◌+◌, ◌<◌, ℕ, List, length, take, sym, ap, subst, arith, false, true, insert}
 use Rattle.std.proofs.lemmas.List.Elements.{All-same}
-use Rattle.std.proofs.lemmas.List.{length-map}
 use Rattle.rf_terms.specs.Kinds.{roles_of}
-use Rattle.rf_terms.proofs.KindLaws.{four_roles}
 use Rattle.rf_domain.specs.Sets.{size_of}
 use Rattle.rf_log.specs.Case.{is_instance, is_among}
 use Rattle.rf_log.specs.declared.hint.Hint.TheVariants.{Rule}
 use Rattle.rf_problem.specs.Problem.{case_of}
-use Rattle.rf_problem.proofs.CaseLemmas.{count_is}
+use Rattle.rf_problem.proofs.CaseLaws.{count_is}
 use Rattle.rf_propagate.specs.Laws.{same}
-use Rattle.rf_props.specs.Sweeps.{left, sole_freq, AreBroken, IsHarmless}
-use Rattle.rf_props.proofs.StrikeLemmas.{known_insert, apart_of, clear_by, clear_other, rows_after, clear_after, rule_is, rule_step, none_left, small_roles}
-use Rattle.rf_props.proofs.CountLemmas.{count_any, counts_length}
+use Rattle.rf_props.specs.Sweeps.{AreBroken, IsHarmless}
+use Rattle.rf_props.proofs.StrikeLemmas.{known_insert, apart_of, clear_by, clear_other, rows_after, clear_after, rule_is, rule_step, small_roles}
+use Rattle.rf_props.proofs.CountLemmas.{count_any}
 use Rattle.rf_props.proofs.InsertLemmas.{length_insert}
 use Rattle.rf_props.proofs.strike.strike.Goals as goal
+use Rattle.rf_base.proofs.BoolLaws.{clash}
 
 pub is_instance-requires-clause-known : goal.is_instance-requires-clause-known
 is_instance-requires-clause-known c =
@@ -43,7 +41,8 @@ returns-in-None-clause-clear c =
     let known : c.args.target < length case.carriers = omega (arith, count_is c.args.problem.now, c.requires.target) in
     let none : IsHarmless case c.args.kind c.args.place (insert c.args.others.now c.args.place c.args.target) c.args.freqs.now c.args.target =
     subst (λ (rs : List ℕ). IsHarmless case c.args.kind c.args.place rs c.args.freqs.now c.args.target) c.with_target-all.ensures c.in-None.ensures in
-    clear_by case c.args.trail.now c.args.kind c.args.place c.args.others.now c.args.freqs.now c.args.target c.requires.counts known c.requires.fixed (λ k here low broken. none.none k low broken)
+    clear_by case c.args.trail.now c.args.kind c.args.place c.args.others.now c.args.freqs.now c.args.target c.requires.counts known c.requires.fixed
+    (λ k here low broken. none.none k low broken)
 
 pub returns-then-not-is_left-clause-sound : goal.returns-then-not-is_left-clause-sound
 returns-then-not-is_left-clause-sound c = λ lines. same
@@ -55,7 +54,7 @@ returns-then-not-is_left-clause-clear c =
     let broken : AreBroken case c.args.kind c.args.place (insert c.args.others.now c.args.place c.args.target) c.args.freqs.now c.args.target c.in-Some.range.0 c.in-Some.range.1 =
     subst (λ (rs : List ℕ). AreBroken case c.args.kind c.args.place rs c.args.freqs.now c.args.target c.in-Some.range.0 c.in-Some.range.1) c.with_target-all.ensures c.in-Some.ensures in
     clear_by case c.args.trail.now c.args.kind c.args.place c.args.others.now c.args.freqs.now c.args.target c.requires.counts known c.requires.fixed
-    (λ k here low breaking. none_left here (c.is_left.ensures c.if-not-is_left.true k (broken.all k low breaking)))
+    (λ k here low breaking. clash here (c.is_left.ensures c.if-not-is_left.true k (broken.all k low breaking)))
 
 pub padded-requires-clause-small : goal.padded-requires-clause-small
 padded-requires-clause-small c =
@@ -75,7 +74,8 @@ known_target c = omega (arith, count_is c.args.problem.now, c.requires.target)
 is_broken : (c : goal.After-remove_because)
     → AreBroken (case_of c.args.problem.now) c.args.kind c.args.place (insert c.args.others.now c.args.place c.args.target) c.args.freqs.now c.args.target c.in-Some.range.0 c.in-Some.range.1
 is_broken c =
-    subst (λ (rs : List ℕ). AreBroken (case_of c.args.problem.now) c.args.kind c.args.place rs c.args.freqs.now c.args.target c.in-Some.range.0 c.in-Some.range.1) c.with_target-all.ensures c.in-Some.ensures
+    subst (λ (rs : List ℕ). AreBroken (case_of c.args.problem.now) c.args.kind c.args.place rs c.args.freqs.now c.args.target c.in-Some.range.0 c.in-Some.range.1)
+    c.with_target-all.ensures c.in-Some.ensures
 
 roles_size : (c : goal.After-remove_because) → length (take (length c.args.others.now + 1) c.with_target-all.result) ≡ roles_of c.args.kind
 roles_size c =
@@ -109,36 +109,8 @@ returns-clause-clear c =
     clear_after (case_of c.args.problem.now) c.args.trail.now c.remove_because.new.self c.args.kind c.args.place c.args.others.now c.args.freqs.now c.args.target first last
     (Rule c.args.kind c.padded.result c.args.place first last) c.requires.counts (known_target c) (apart c) c.requires.fixed (is_broken c) c.remove_because.result c.remove_because.ensures.ok
 
-pub slice_bounds-roles-end : goal.slice_bounds-roles-end
-slice_bounds-roles-end c = omega (arith, ap length c.with_target-all.ensures, length_insert c.args.others.now c.args.place c.args.target, c.requires.others)
-
-pub is_instance-requires-clause-roles : goal.is_instance-requires-clause-roles
-is_instance-requires-clause-roles c = omega (arith, ap length c.with_target-all.ensures, length_insert c.args.others.now c.args.place c.args.target, c.requires.others)
-
-pub broken_range-requires-clause-roles : goal.broken_range-requires-clause-roles
-broken_range-requires-clause-roles c = omega (arith, ap length c.with_target-all.ensures, length_insert c.args.others.now c.args.place c.args.target, c.requires.others)
-
-pub broken_range-requires-clause-freqs : goal.broken_range-requires-clause-freqs
-broken_range-requires-clause-freqs c =
-    omega (arith, ap length c.requires.fixed.known, length-map c.args.others.now (sole_freq (case_of c.args.problem.now) (left c.args.trail.now)), c.requires.others)
-
-pub is_left-requires : goal.is_left-requires
-is_left-requires c = omega (arith, ap length c.requires.counts, counts_length (case_of c.args.problem.now), count_is c.args.problem.now, c.requires.target)
-
-pub padded-requires-clause-few : goal.padded-requires-clause-few
-padded-requires-clause-few c = omega (arith, ap length c.with_target-all.ensures, length_insert c.args.others.now c.args.place c.args.target, c.requires.others, four_roles c.args.kind)
-
 pub remove_because-requires : goal.remove_because-requires
 remove_because-requires c = record {
   ordered = c.in-Some.ensures.ordered;
   in_range = omega (arith, c.in-Some.ensures.known, ap (λ ns. size_of ns c.args.target) c.requires.counts, count_any (case_of c.args.problem.now) c.args.target);
 }
-
-pub returns-then-not-is_instance-clause-rows : goal.returns-then-not-is_instance-clause-rows
-returns-then-not-is_instance-clause-rows c = record { each = λ o among. refl }
-
-pub returns-in-None-clause-rows : goal.returns-in-None-clause-rows
-returns-in-None-clause-rows c = record { each = λ o among. refl }
-
-pub returns-then-not-is_left-clause-rows : goal.returns-then-not-is_left-clause-rows
-returns-then-not-is_left-clause-rows c = record { each = λ o among. refl }

@@ -1,31 +1,28 @@
-use Rattle.std.proofs.Common.{◌≡◌, Bool, true, false, ℕ, sym, ◌∙◌}
+use Rattle.std.proofs.Common.{◌≡◌, Bool, ℕ, ap, sym, ◌∙◌}
 use Rattle.rf_rules.specs.Instances.{at_in, ats_of}
 use Rattle.rf_rules.specs.Analyses.{is_off_grid}
 use Rattle.rf_rules.specs.declared.conflict.Conflict.TheVariants.{OffGrid}
-use Rattle.rf_rules.proofs.AnalysisLemmas.{passed-more, passed-same, passed-zero}
-use Rattle.rf_rules.proofs.TallyLemmas.{none-more, both-more, same-more}
+use Rattle.rf_rules.proofs.AnalysisLemmas.{pass-none, pass-on, pass-over}
+use Rattle.rf_show.specs.Show.{ShowData}
 use Rattle.rf_rules.proofs.analysis.add_off_grid.Goals as goal
 use Rattle.rf_rules.proofs.analysis.add_off_grid.Goals.{After-is_off_grid}
 
-pub loop-carrier-init : goal.loop-carrier-init
-loop-carrier-init c = same-more _ _ _ _ (passed-zero _ _) (none-more c.args.tally.now)
+-- of a carrier
+abbrev off : ShowData → ℕ → Bool
+off show c = is_off_grid show c (at_in (ats_of show) c)
 
-test : (c : After-is_off_grid) → c.is_off_grid.result ≡ is_off_grid c.args.show.now c.loop-carrier.carrier (at_in (ats_of c.args.show.now) c.loop-carrier.carrier)
-test c =
-    let e : c.at.result ≡ at_in (ats_of c.args.show.now) c.loop-carrier.carrier = rw (← c.requires) c.at.ensures in
-    rw (← e) c.is_off_grid.ensures
+pub loop-carrier-init : goal.loop-carrier-init
+loop-carrier-init c = pass-none _ _ c.args.tally.now
+
+told : (c : After-is_off_grid) → off c.args.show.now c.loop-carrier.carrier ≡ c.is_off_grid.result
+told c = sym (c.is_off_grid.ensures ∙ ap (is_off_grid c.args.show.now c.loop-carrier.carrier) (c.at.ensures ∙ ap (λ ats. at_in ats c.loop-carrier.carrier) c.requires))
 
 pub loop-carrier-preserved-then-not-is_off_grid : goal.loop-carrier-preserved-then-not-is_off_grid
 loop-carrier-preserved-then-not-is_off_grid c =
-    let show = c.args.show.now in
-    let off : ℕ → Bool = λ d. is_off_grid show d (at_in (ats_of show) d) in
-    let no : off c.loop-carrier.carrier ≡ false = sym (test (goal.at.loop-carrier-preserved-then-not-is_off_grid c).After-is_off_grid) ∙ c.if-not-is_off_grid.true in
-    same-more c.args.tally.now c.loop-carrier.tally _ _ (passed-same (λ d. OffGrid d) off c.loop-carrier.carrier no) c.loop-carrier.invariant
+    pass-over (λ d. OffGrid d) (off c.args.show.now) c.loop-carrier.carrier c.args.tally.now c.loop-carrier.tally
+    (told (goal.at.loop-carrier-preserved-then-not-is_off_grid c).After-is_off_grid ∙ c.if-not-is_off_grid.true) c.loop-carrier.invariant
 
 pub loop-carrier-preserved : goal.loop-carrier-preserved
 loop-carrier-preserved c =
-    let show = c.args.show.now in
-    let off : ℕ → Bool = λ d. is_off_grid show d (at_in (ats_of show) d) in
-    let yes : off c.loop-carrier.carrier ≡ true = sym (test (goal.at.loop-carrier-preserved c).After-is_off_grid) ∙ c.if-not-is_off_grid.false in
-    same-more c.args.tally.now c.add.new.self _ _ (passed-more (λ d. OffGrid d) off c.loop-carrier.carrier yes)
-    (both-more c.args.tally.now c.loop-carrier.tally c.add.new.self _ _ c.loop-carrier.invariant c.in_ok-add.ensures)
+    pass-on (λ d. OffGrid d) (off c.args.show.now) c.loop-carrier.carrier c.args.tally.now c.loop-carrier.tally c.add.new.self
+    (told (goal.at.loop-carrier-preserved c).After-is_off_grid ∙ c.if-not-is_off_grid.false) c.loop-carrier.invariant c.in_ok-add.ensures

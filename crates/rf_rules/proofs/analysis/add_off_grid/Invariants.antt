@@ -1,5 +1,4 @@
-use Rattle.std.proofs.Common.{map}
-use Rattle.std.specs.Prelude.{filter}
+use Rattle.std.proofs.Common.{map, filter}
 use Rattle.rf_rules.specs.Tuples.{upto}
 use Rattle.rf_rules.specs.Tallies.{Extends}
 use Rattle.rf_rules.specs.Instances.{at_in, ats_of}

@@ -1,7 +1,8 @@
 use Rattle.std.proofs.Common.{◌≡◌, ◌<◌, ◌^◌, ◌*ℤ◌, unsigned_abs, arith, to_z, of_z, w64}
 use Rattle.std.proofs.lemmas.Int.{to_z-of_z}
-use Rattle.rf_rules.proofs.FormLemmas.{abs-mul, told}
+use Rattle.rf_rules.proofs.FormLemmas.{abs-mul}
 use Rattle.rf_rules.proofs.arithmetic.term.Goals as goal
+use Rattle.rf_terms.proofs.FormLaws.{told}
 
 -- the product without its conversions
 is : (c : goal.Start) → to_z w64 (of_z w64 (to_z w64 (of_z w64 c.args.coefficient) *ℤ to_z w64 (of_z w64 c.args.khz))) ≡ c.args.coefficient *ℤ c.args.khz

@@ -1,6 +1,5 @@
-use Rattle.std.proofs.Common.{◌≡◌, ◌<◌, ◌≢◌, get_or, set, length, inl, inr, ap, length-set, arith}
+use Rattle.std.proofs.Common.{◌≡◌, ◌<◌, ◌≢◌, get_or, set, length, inl, inr, ap, length-set, arith, get_or-set_same, get_or-set_other}
 use Rattle.std.proofs.lemmas.Bool.{cases_lt}
-use Rattle.std.proofs.lemmas.List.{get_or-set_same, get_or-set_other}
 use Rattle.rf_rules.proofs.company.make_masks.Goals as goal
 
 pub loop-a-init : goal.loop-a-init

@@ -1,5 +1,4 @@
-use Rattle.std.proofs.Common.{◌≡◌, take}
-use Rattle.std.specs.Prelude.{filter}
+use Rattle.std.proofs.Common.{◌≡◌, take, filter}
 use Rattle.rf_rules.specs.Products.{is_upto}
 use Rattle.rf_rules.proofs.front.upto.Given as goal
 

@@ -6,8 +6,7 @@ use Rattle.rf_profiles.specs.Profile.{margin_of}
 use Rattle.rf_show.specs.Query.{asked}
 use Rattle.rf_rules.specs.Instances.{IsLimited, khz_in}
 use Rattle.rf_rules.specs.Searches.{lane_of, last_coefficient}
-use Rattle.rf_rules.proofs.TupleLemmas.{All-push, map-upto, upto-zero}
-use Rattle.rf_rules.proofs.FormLemmas.{lane-same}
+use Rattle.rf_rules.proofs.TupleLaws.{All-push, map-upto, upto-zero}
 use Rattle.rf_rules.proofs.lane.make_lanes.Goals as goal
 use Rattle.rf_rules.proofs.lane.make_lanes.Goals.{After-margin}
 
@@ -31,11 +30,7 @@ needs : (c : After-margin) → c.margin.result ≡ asked c.args.show.now c.args.
 needs c = c.margin.ensures ∙ sym (ap (λ o. option_map_or (λ p. margin_of p c.args.kind) o 0) c.profile_of.ensures.value)
 
 lane : (c : After-margin) → record { term = to_z w64 (of_z w64 c.term.result); needs = c.margin.result } ≡ lane_of c.args.show.now c.args.ats.now c.args.kind c.loop-carrier.carrier
-lane c = lane-same _ _ _ _ (term c) (needs c)
-
-pub returns-clause-fits : goal.returns-clause-fits
-returns-clause-fits c =
-    omega (arith, c.loop-carrier.invariant.room, c.requires)
+lane c = cc (term c, needs c)
 
 pub loop-carrier-preserved : goal.loop-carrier-preserved
 loop-carrier-preserved c =

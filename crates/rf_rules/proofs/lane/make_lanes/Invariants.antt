@@ -1,5 +1,4 @@
-use Rattle.std.proofs.Common.{◌≡◌, ◌≤◌, length, map, take}
-use Rattle.std.specs.Prelude.{All}
+use Rattle.std.proofs.Common.{◌≡◌, ◌≤◌, length, map, take, All}
 use Rattle.rf_rules.specs.Instances.{IsLimited}
 use Rattle.rf_rules.specs.Searches.{lane_of}
 use Rattle.rf_rules.specs.Tuples.{upto}

@@ -6,4 +6,6 @@ pub loop-conflict-init : goal.loop-conflict-init
 loop-conflict-init c = none-more c.args.tally.now
 
 pub loop-conflict-preserved : goal.loop-conflict-preserved
-loop-conflict-preserved c = all-more c.args.conflicts.now c.loop-conflict.conflict-index _ c.args.tally.now c.loop-conflict.tally c.add.new.self c.loop-conflict-test.true c.loop-conflict.invariant c.in_ok-add.ensures
+loop-conflict-preserved c =
+    all-more c.args.conflicts.now c.loop-conflict.conflict-index _ c.args.tally.now c.loop-conflict.tally c.add.new.self c.loop-conflict-test.true c.loop-conflict.invariant
+    c.in_ok-add.ensures

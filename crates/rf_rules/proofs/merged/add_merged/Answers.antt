@@ -7,7 +7,10 @@ pub loop-conflict-init : goal.loop-conflict-init
 loop-conflict-init c = walk-start (precedes c.args.kind) c.args.kept.now c.as_slice-shown.result.now c.args.tally.now
 
 pub loop-conflict-preserved : goal.loop-conflict-preserved
-loop-conflict-preserved c = walk-more (precedes c.args.kind) c.args.kept.now c.as_slice-shown.result.now c.loop-conflict.rest.now c.in_ok-rest.rest.now c.loop-conflict.conflict-index _ c.args.tally.now c.loop-conflict.tally c.add_ahead.new.tally c.add.new.self c.loop-conflict-test.true c.loop-conflict.invariant c.in_ok-rest.ensures.added c.in_ok-rest.ensures.rest c.in_ok-add.ensures
+loop-conflict-preserved c =
+    walk-more (precedes c.args.kind) c.args.kept.now c.as_slice-shown.result.now c.loop-conflict.rest.now c.in_ok-rest.rest.now c.loop-conflict.conflict-index _ c.args.tally.now
+    c.loop-conflict.tally c.add_ahead.new.tally c.add.new.self c.loop-conflict-test.true c.loop-conflict.invariant c.in_ok-rest.ensures.added c.in_ok-rest.ensures.rest
+    c.in_ok-add.ensures
 
 pub returns : goal.returns
 returns c = λ all e f.

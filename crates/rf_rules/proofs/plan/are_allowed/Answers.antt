@@ -1,9 +1,8 @@
-use Rattle.std.proofs.Common.{◌≡◌, ◌+◌, length, ap, sym, ◌∙◌, arith}
-use Rattle.std.specs.Prelude.{slice_index}
+use Rattle.std.proofs.Common.{◌≡◌, ◌+◌, length, ap, sym, ◌∙◌, arith, slice_index}
 use Rattle.std.specs.List.{list_all}
 use Rattle.rf_show.specs.Query.{is_allowed}
 use Rattle.rf_rules.specs.Tuples.{upto}
-use Rattle.rf_rules.proofs.PlanLemmas.{each-more, each-not, each-zero}
+use Rattle.rf_rules.proofs.PlanLaws.{each-more, each-not, each-zero}
 use Rattle.rf_rules.proofs.plan.are_allowed.Goals as goal
 
 pub loop-carrier-init : goal.loop-carrier-init

@@ -1,5 +1,4 @@
-use Rattle.std.proofs.Common.{◌≡◌, true}
-use Rattle.std.specs.Prelude.{slice_index}
+use Rattle.std.proofs.Common.{◌≡◌, true, slice_index}
 use Rattle.std.specs.List.{list_all}
 use Rattle.rf_show.specs.Query.{is_allowed}
 use Rattle.rf_rules.specs.Tuples.{upto}

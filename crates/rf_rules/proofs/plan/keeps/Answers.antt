@@ -2,7 +2,7 @@ use Rattle.std.proofs.Common.{◌≡◌, length, ap, sym, ◌∙◌, arith}
 use Rattle.std.specs.List.{list_any}
 use Rattle.rf_terms.specs.Kinds.{kinds}
 use Rattle.rf_rules.specs.Plans.{has_broken}
-use Rattle.rf_rules.proofs.PlanLemmas.{plan-forbidden, plan-judged, plan-short}
+use Rattle.rf_rules.proofs.PlanLaws.{plan-forbidden, plan-judged, plan-short}
 use Rattle.rf_rules.proofs.plan.keeps.Goals as goal
 
 pub returns-then-plan-carriers : goal.returns-then-plan-carriers

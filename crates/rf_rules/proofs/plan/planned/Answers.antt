@@ -1,8 +1,7 @@
-use Rattle.std.proofs.Common.{◌≡◌, ℕ, ◌∷◌, [], ◌++◌, map, take, length, length-set, ap, sym, ◌∙◌, arith}
-use Rattle.std.specs.Prelude.{Option, slice_index}
+use Rattle.std.proofs.Common.{◌≡◌, ℕ, ◌∷◌, [], ◌++◌, map, take, length, length-set, ap, sym, ◌∙◌, arith, Option, slice_index}
 use Rattle.std.proofs.lemmas.List.{take_more_set}
 use Rattle.rf_show.specs.Query.{channel_of}
-use Rattle.rf_rules.proofs.TupleLemmas.{map-upto, upto-zero}
+use Rattle.rf_rules.proofs.TupleLaws.{map-upto, upto-zero}
 use Rattle.rf_rules.proofs.plan.planned.Goals as goal
 
 pub loop-carrier-init : goal.loop-carrier-init

@@ -1,5 +1,4 @@
-use Rattle.std.proofs.Common.{◌≡◌, ◌≤◌, length, map, take}
-use Rattle.std.specs.Prelude.{slice_index}
+use Rattle.std.proofs.Common.{◌≡◌, ◌≤◌, length, map, take, slice_index}
 use Rattle.rf_show.specs.Query.{channel_of}
 use Rattle.rf_rules.specs.Tuples.{upto}
 use Rattle.rf_rules.proofs.plan.planned.Given as goal

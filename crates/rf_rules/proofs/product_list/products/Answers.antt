@@ -1,5 +1,4 @@
-use Rattle.std.proofs.Common.{◌≡◌, length, take, refl, ap, arith, ◌∙◌}
-use Rattle.std.specs.Prelude.{filter}
+use Rattle.std.proofs.Common.{◌≡◌, length, take, refl, ap, arith, ◌∙◌, filter}
 use Rattle.std.specs.List.{flat_map}
 use Rattle.rf_terms.specs.Kinds.{kinds}
 use Rattle.rf_rules.specs.Instances.{ats_of}

@@ -7,4 +7,6 @@ pub loop-kind-init : goal.loop-kind-init
 loop-kind-init c = none-more c.args.tally.now
 
 pub loop-kind-preserved : goal.loop-kind-preserved
-loop-kind-preserved c = part-more (renewed_of c.args.mask c.args.before.now c.args.company.now.show.now) c.kinds-kind-items.result.now c.loop-kind.kind-index Spacing c.args.tally.now c.loop-kind.tally c.add_renewed.new.tally c.loop-kind-test.true c.loop-kind.invariant c.in_ok-add_renewed.ensures
+loop-kind-preserved c =
+    part-more (renewed_of c.args.mask c.args.before.now c.args.company.now.show.now) c.kinds-kind-items.result.now c.loop-kind.kind-index Spacing c.args.tally.now c.loop-kind.tally
+    c.add_renewed.new.tally c.loop-kind-test.true c.loop-kind.invariant c.in_ok-add_renewed.ensures

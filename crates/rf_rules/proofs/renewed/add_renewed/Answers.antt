@@ -28,4 +28,5 @@ returns c =
     let kept = c.as_slice.ensures.value ∙ c.in_ok-kept.ensures in
     let P : List Conflict → Type 0 = λ zs. Extends c.args.tally.now c.add_merged.new.tally (merge (precedes c.args.kind) zs (touched_of show c.args.ats.now c.args.kind c.args.mask)) in
     let merged = c.in_ok-add_merged.ensures (touched_of show c.args.ats.now c.args.kind c.args.mask) f.shown f.total in
-    rw (← c.requires.carriers) (subst P kept (from-same c.args.tally.now c.count_products.new.self c.add_merged.new.tally _ c.count_products.ensures.shown c.count_products.ensures.total merged))
+    rw (← c.requires.carriers)
+    (subst P kept (from-same c.args.tally.now c.count_products.new.self c.add_merged.new.tally _ c.count_products.ensures.shown c.count_products.ensures.total merged))

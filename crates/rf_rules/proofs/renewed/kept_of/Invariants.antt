@@ -1,5 +1,4 @@
-use Rattle.std.proofs.Common.{◌≡◌, take}
-use Rattle.std.specs.Prelude.{filter}
+use Rattle.std.proofs.Common.{◌≡◌, take, filter}
 use Rattle.rf_rules.specs.Renewed.{is_kept}
 use Rattle.rf_rules.proofs.renewed.kept_of.Given as goal
 

@@ -1,5 +1,4 @@
-use Rattle.std.proofs.Common.{◌≡◌, ◌∙◌, true, false, length, Some, arith, rules, refl, ap, inr}
-use Rattle.std.specs.Prelude.{◌==◌}
+use Rattle.std.proofs.Common.{◌≡◌, ◌∙◌, true, false, length, Some, arith, rules, refl, ap, inr, ◌==◌}
 use Rattle.csv.specs.Reading.{builder_config, builder_names_headers, builder_trim}
 use Rattle.rf_scan.specs.Scan.{scan_from}
 use Rattle.rf_scan.proofs.ScanLemmas.{started, read_one, read_end, number_fits, taken, refused, handed_on}

@@ -1,5 +1,4 @@
-use Rattle.std.proofs.Common.{◌∙◌, ap, subst, sym}
-use Rattle.std.specs.Prelude.{Err, take}
+use Rattle.std.proofs.Common.{◌∙◌, ap, subst, sym, Err, take}
 use Rattle.std.specs.Io.KnownBytes.{Appends}
 use Rattle.rf_solving.specs.Solving.{IsBegun, IsEnded}
 use Rattle.rf_session.specs.declared.machine.Stop.TheVariants.{Memory}

@@ -22,11 +22,13 @@ returns-in-Quit-clause-session g c =
 
 pub returns-in-Stopped-Write-clause-session : goal.returns-in-Stopped-Write-clause-session
 returns-in-Stopped-Write-clause-session g c =
-    ends_stopped _ (Cut g.M.Machine.cuts) _ _ c.take_turn.new.machine _ _ _ _ _ c.take_turn.new.reader _ _ _ _ c.in-Stopped-Write.field-0 _ c.in-Stopped-Write.field-0-is c.loop-refusal.invariant.0 c.in-Stopped-Write.ensures.turns
+    ends_stopped _ (Cut g.M.Machine.cuts) _ _ c.take_turn.new.machine _ _ _ _ _ c.take_turn.new.reader _ _ _ _
+    c.in-Stopped-Write.field-0 _ c.in-Stopped-Write.field-0-is c.loop-refusal.invariant.0 c.in-Stopped-Write.ensures.turns
 
 pub returns-in-Stopped-Memory-clause-session : goal.returns-in-Stopped-Memory-clause-session
 returns-in-Stopped-Memory-clause-session g c =
-    ends_stopped _ (Cut g.M.Machine.cuts) _ _ c.take_turn.new.machine _ _ _ _ _ c.take_turn.new.reader _ _ _ _ c.in-Stopped-Memory.field-0 _ c.in-Stopped-Memory.field-0-is c.loop-refusal.invariant.0 c.in-Stopped-Memory.ensures.turns
+    ends_stopped _ (Cut g.M.Machine.cuts) _ _ c.take_turn.new.machine _ _ _ _ _ c.take_turn.new.reader _ _ _ _
+    c.in-Stopped-Memory.field-0 _ c.in-Stopped-Memory.field-0-is c.loop-refusal.invariant.0 c.in-Stopped-Memory.ensures.turns
 
 pub returns-in-TooLong-clause-session : goal.returns-in-TooLong-clause-session
 returns-in-TooLong-clause-session g c =

@@ -1,5 +1,4 @@
-use Rattle.std.proofs.Common.{sym, ◌∙◌, ap}
-use Rattle.std.proofs.Common.{set}
+use Rattle.std.proofs.Common.{sym, ◌∙◌, ap, set}
 use Rattle.rf_show.specs.Show.{is_carrier}
 use Rattle.rf_show.proofs.ListLemmas.{change_first_at}
 use Rattle.rf_show.proofs.RoomLemmas.{time_room}

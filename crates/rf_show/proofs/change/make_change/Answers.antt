@@ -1,5 +1,4 @@
-use Rattle.std.proofs.Common.{◌≡◌, ◌≤◌, ◌<◌, length, get_or}
-use Rattle.std.proofs.lemmas.Bool.{leb-true, ltb-true}
+use Rattle.std.proofs.Common.{◌≡◌, ◌≤◌, ◌<◌, length, get_or, leb-true, ltb-true}
 use Rattle.rf_show.proofs.ListLemmas.{remove_insert, set_back}
 use Rattle.rf_show.proofs.change.make_change.Goals as goal
 

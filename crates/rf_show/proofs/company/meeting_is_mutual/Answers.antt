@@ -1,4 +1,4 @@
-use Rattle.rf_show.proofs.CompanyLemmas.{meeting_mutual}
+use Rattle.rf_show.proofs.CompanyLaws.{meeting_mutual}
 use Rattle.rf_show.proofs.company.meeting_is_mutual.Goals as goal
 
 pub returns : goal.returns

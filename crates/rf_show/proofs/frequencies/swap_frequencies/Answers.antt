@@ -1,6 +1,6 @@
 use Rattle.std.proofs.Common.{◌≡◌, ◌<◌, length, ◌∙◌, ap, arith}
 use Rattle.rf_show.specs.After.{placed}
-use Rattle.rf_show.proofs.PlaceLemmas.{placed_to, taken_to, placed_step, taken_step, placed_all, taken_all, placed_back}
+use Rattle.rf_show.proofs.PlaceLaws.{placed_to, taken_to, placed_step, taken_step, placed_all, taken_all, placed_back}
 use Rattle.rf_show.proofs.frequencies.swap_frequencies.Goals as goal
 
 pub loop-i-preserved : goal.loop-i-preserved

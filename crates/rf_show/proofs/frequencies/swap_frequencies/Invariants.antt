@@ -1,5 +1,5 @@
 use Rattle.std.proofs.Common.{◌≡◌}
-use Rattle.rf_show.proofs.PlaceLemmas.{placed_to, taken_to}
+use Rattle.rf_show.proofs.PlaceLaws.{placed_to, taken_to}
 use Rattle.rf_show.proofs.frequencies.swap_frequencies.Given as goal
 
 abbrev pub invariant-loop-i : goal.invariant-loop-i

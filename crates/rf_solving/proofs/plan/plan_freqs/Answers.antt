@@ -1,9 +1,8 @@
-use Rattle.std.proofs.Common.{◌≡◌, ◌++◌, ◌+◌, ◌∷◌, [], ℕ, List, map, ap, sym, ◌∙◌}
-use Rattle.std.specs.Prelude.{slice_index}
+use Rattle.std.proofs.Common.{◌≡◌, ◌++◌, ◌+◌, ◌∷◌, [], ℕ, List, map, ap, sym, ◌∙◌, slice_index}
 use Rattle.std.specs.List.{range_with_len}
 use Rattle.rf_log.specs.Case.{freq_of}
 use Rattle.rf_show.specs.Case.{case_of}
-use Rattle.rf_solving.proofs.ListLemmas.{map_more}
+use Rattle.rf_solving.proofs.LinesLaws.{map_more}
 use Rattle.rf_solving.proofs.plan.plan_freqs.Goals as goal
 
 -- one value more

@@ -1,6 +1,6 @@
 use Rattle.std.proofs.Common.{◌≡◌, ◌<◌, ◌≤◌, ◌+◌, ◌++◌, ℕ, List, length, take, get_or, ap, sym, ◌∙◌, append_assoc}
 use Rattle.rf_solving.specs.Solving.{at_line, at_lines}
-use Rattle.rf_solving.proofs.ListLemmas.{lines_more, lines_whole}
+use Rattle.rf_solving.proofs.LinesLaws.{lines_more, lines_whole}
 use Rattle.rf_solving.proofs.plan.write_ats.Goals as goal
 
 -- one line more

@@ -1,5 +1,4 @@
-use Rattle.std.proofs.Common.{◌≡◌, ◌++◌, take}
-use Rattle.std.specs.Prelude.{string_bytes}
+use Rattle.std.proofs.Common.{◌≡◌, ◌++◌, take, string_bytes}
 use Rattle.rf_solving.specs.Solving.{at_lines}
 use Rattle.rf_solving.proofs.plan.write_ats.Given as goal
 

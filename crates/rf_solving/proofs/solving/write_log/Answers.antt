@@ -1,6 +1,5 @@
-use Rattle.std.proofs.Common.{rules, ◌≡◌, ◌≤◌, ℕ, List, sym, subst, ◌∙◌, ap}
+use Rattle.std.proofs.Common.{rules, ◌≡◌, ◌≤◌, ℕ, List, sym, subst, ◌∙◌, ap, Option, Err, IfOk, length}
 use Rattle.std.proofs.lemmas.List.{length-map}
-use Rattle.std.specs.Prelude.{Option, Err, IfOk, length}
 use Rattle.std.specs.Io.KnownBytes.{Appends}
 use Rattle.rf_base.specs.Cause.{Rose}
 use Rattle.rf_base.specs.Piece.{AppendsPrefix}

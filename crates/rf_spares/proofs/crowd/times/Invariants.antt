@@ -1,5 +1,4 @@
-use Rattle.std.proofs.Common.{◌≡◌, ◌++◌, ◌-◌, [], map, take}
-use Rattle.std.specs.Prelude.{replicate}
+use Rattle.std.proofs.Common.{◌≡◌, ◌++◌, ◌-◌, [], map, take, replicate}
 use Rattle.rf_spares.proofs.crowd.times.Given as goal
 
 abbrev pub invariant-loop-i : goal.invariant-loop-i

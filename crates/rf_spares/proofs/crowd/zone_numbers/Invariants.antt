@@ -1,5 +1,4 @@
-use Rattle.std.proofs.Common.{◌≡◌, ◌++◌, ◌-◌, length, map, take}
-use Rattle.std.specs.Prelude.{replicate}
+use Rattle.std.proofs.Common.{◌≡◌, ◌++◌, ◌-◌, length, map, take, replicate}
 use Rattle.rf_show.specs.Show.{zone_number}
 use Rattle.rf_spares.specs.Crowds.{AreZones}
 use Rattle.rf_spares.proofs.crowd.zone_numbers.Given as goal

@@ -1,6 +1,5 @@
-use Rattle.std.proofs.Common.{◌∙◌, ap, arith}
+use Rattle.std.proofs.Common.{◌∙◌, ap, arith, take_all}
 use Rattle.std.specs.List.{list_any}
-use Rattle.std.proofs.lemmas.List.{take_all}
 use Rattle.rf_spares.specs.Harms.{harms, harms_kind}
 use Rattle.rf_spares.specs.Searches.{site}
 use Rattle.rf_spares.proofs.SearchLemmas.{gains-as}

@@ -1,5 +1,4 @@
-use Rattle.std.proofs.Common.{◌≡◌, ℕ, false, length, take}
-use Rattle.std.specs.Prelude.{replicate}
+use Rattle.std.proofs.Common.{◌≡◌, ℕ, false, length, take, replicate}
 use Rattle.rf_spares.specs.Runs.{flag_at}
 use Rattle.rf_spares.specs.Texts.{is_among}
 use Rattle.rf_spares.proofs.text.flags_of.Given as goal

@@ -1,7 +1,7 @@
 use Rattle.std.proofs.Common.{◌<◌, arith}
 use Rattle.rf_spares.specs.Runs.{flag_at}
-use Rattle.rf_spares.proofs.RunLemmas.{no_run, next_run}
 use Rattle.rf_spares.proofs.text.next_run.Goals as goal
+use Rattle.rf_profiles.proofs.RunLaws.{no_run, next_run}
 
 pub returns-then-first-end : goal.returns-then-first-end
 returns-then-first-end c =

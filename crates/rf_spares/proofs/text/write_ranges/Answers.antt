@@ -1,8 +1,9 @@
 use Rattle.std.proofs.Common.{◌≡◌, ◌+◌, ◌-◌, length, arith}
 use Rattle.rf_profiles.specs.Range.{frequencies}
 use Rattle.rf_spares.specs.Runs.{flag_at}
-use Rattle.rf_spares.proofs.RunLemmas.{range_within, ranges_more, all_channels}
+use Rattle.rf_spares.proofs.RunLemmas.{ranges_more}
 use Rattle.rf_spares.proofs.text.write_ranges.Goals as goal
+use Rattle.rf_profiles.proofs.RunLaws.{range_within, all_channels}
 
 pub overflow_add-end : goal.overflow_add-end
 overflow_add-end c =

@@ -1,5 +1,4 @@
-use Rattle.std.proofs.Common.{◌∙◌, get_or, sym}
-use Rattle.std.specs.Prelude.{string_bytes}
+use Rattle.std.proofs.Common.{◌∙◌, get_or, sym, string_bytes}
 use Rattle.rf_spares.proofs.RunLemmas.{khz_is, takes_more}
 use Rattle.rf_spares.proofs.text.write_taken.Goals as goal
 

@@ -1,7 +1,7 @@
 use Rattle.std.proofs.Common.{◌≡◌, ◌≤◌, ◌<◌, ◌^◌, ◌+◌, ℤ, pos, ◌+ℤ◌, ◌*ℤ◌, unsigned_abs, map, take, get_or, arith, to_z, of_z, w64, ap, sym, ◌∙◌, add-one}
 use Rattle.std.proofs.lemmas.Int.{fits_signed_from_abs}
 use Rattle.rf_terms.specs.Forms.{form}
-use Rattle.rf_terms.proofs.FormLemmas.{form-take-bound, form-more, step-is, step-small, told}
+use Rattle.rf_terms.proofs.FormLaws.{form-take-bound, form-more, step-is, step-small, told}
 use Rattle.rf_terms.proofs.form.weighted.Goals as goal
 
 -- the sum so far, and with one role more

@@ -1,6 +1,6 @@
 use Rattle.std.proofs.Common.{◌≡◌, ◌≤◌, ◌<◌, ◌↔◌, ℤ, pos, ◌+ℤ◌, ◌*ℤ◌, ◌≤ℤ◌, ◌-ℤ◌, neg_ℤ, unsigned_abs, arith, to_z, of_z, w64, ap, ◌∙◌}
 use Rattle.std.proofs.lemmas.Int.{ints, to_z-of_z}
-use Rattle.rf_terms.proofs.FormLemmas.{told}
+use Rattle.rf_terms.proofs.FormLaws.{told}
 use Rattle.rf_terms.proofs.WindowLemmas.{Ends, IsCentre, centre-small, near-ends, low-is, high-is}
 use Rattle.rf_terms.proofs.windows.near.Goals as goal
 use Rattle.rf_terms.proofs.windows.near.Goals.{then-coefficient-lt0, else-coefficient-lt0, After-div_euclid-greatest}

@@ -3,7 +3,7 @@ use Rattle.std.proofs.lemmas.List.{take_rest}
 use Rattle.rf_terms.specs.Kinds.{AllSmall, coefficients_of}
 use Rattle.rf_terms.specs.Forms.{form}
 use Rattle.rf_terms.specs.Windows.{Breaks, form_with}
-use Rattle.rf_terms.proofs.FormLemmas.{form-insert, told, sum-told}
+use Rattle.rf_terms.proofs.FormLaws.{form-insert, told, sum-told}
 use Rattle.rf_terms.proofs.WindowLemmas.{window-same}
 use Rattle.rf_terms.proofs.windows.window.Goals as goal
 

@@ -1,5 +1,4 @@
-use Rattle.std.proofs.Common.{◌≡◌, ◌++◌, map, take, string_bytes}
-use Rattle.std.specs.Prelude.{decimal}
+use Rattle.std.proofs.Common.{◌≡◌, ◌++◌, map, take, string_bytes, decimal}
 use Rattle.rf_base.specs.Lines.{spaced}
 use Rattle.rf_text.proofs.edit_text.write_numbers.Given as goal
 

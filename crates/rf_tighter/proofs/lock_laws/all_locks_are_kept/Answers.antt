@@ -1,4 +1,4 @@
-use Rattle.rf_tighter.proofs.LockedLemmas.{locked-all}
+use Rattle.rf_tighter.proofs.LockedLaws.{locked-all}
 use Rattle.rf_tighter.proofs.lock_laws.all_locks_are_kept.Goals as goal
 
 pub returns : goal.returns

@@ -1,4 +1,4 @@
-use Rattle.rf_tighter.proofs.LockedLemmas.{tighter-locked}
+use Rattle.rf_tighter.proofs.LockedLaws.{tighter-locked}
 use Rattle.rf_tighter.proofs.lock_laws.more_locks_are_tighter.Goals as goal
 
 pub returns : goal.returns

@@ -1,8 +1,7 @@
-use Rattle.std.proofs.Common.{◌≡◌, ◌∙◌, ◌+◌, ◌-◌, ◌≤◌, List, [], ◌∷◌, ◌++◌, length, take, drop, reverse, sym, ap, subst, arith}
+use Rattle.std.proofs.Common.{◌≡◌, ◌∙◌, ◌+◌, ◌≤◌, [], ◌∷◌, ◌++◌, length, take, reverse, sym, ap, subst, arith}
 use Rattle.std.proofs.lemmas.List.{length-append, take-append-le, take_all}
-use Rattle.rf_trail.proofs.TraceLemmas.{reverse-take-drop}
+use Rattle.rf_trail.proofs.TraceLaws.{reverse-take-drop}
 use Rattle.rf_trail.proofs.PieceLemmas.{last_known, pieces_less}
-use Rattle.rf_trail.specs.declared.piece.Piece.{Piece}
 use Rattle.rf_trail.specs.Pieces.{ArePieces}
 use Rattle.rf_trail.proofs.piece.give_back.Goals.{In-Some}
 use Rattle.rf_trail.proofs.piece.give_back.Goals as goal

@@ -1,6 +1,6 @@
 use Rattle.std.proofs.Common.{arith}
 use Rattle.rf_zones.specs.Masks.{mask_width}
-use Rattle.rf_zones.proofs.MaskLemmas.{has_ones}
+use Rattle.rf_zones.proofs.MaskLaws.{has_ones}
 use Rattle.rf_zones.proofs.mask.all.Goals as goal
 
 pub returns : goal.returns

@@ -1,4 +1,4 @@
-use Rattle.rf_zones.proofs.MaskLemmas.{has_both}
+use Rattle.rf_zones.proofs.MaskLaws.{has_both}
 use Rattle.rf_zones.proofs.mask.both.Goals as goal
 
 pub returns : goal.returns

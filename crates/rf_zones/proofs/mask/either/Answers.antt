@@ -1,4 +1,4 @@
-use Rattle.rf_zones.proofs.MaskLemmas.{has_either}
+use Rattle.rf_zones.proofs.MaskLaws.{has_either}
 use Rattle.rf_zones.proofs.mask.either.Goals as goal
 
 pub returns : goal.returns

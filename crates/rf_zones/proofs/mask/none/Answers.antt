@@ -1,4 +1,4 @@
-use Rattle.rf_zones.proofs.MaskLemmas.{has_none}
+use Rattle.rf_zones.proofs.MaskLaws.{has_none}
 use Rattle.rf_zones.proofs.mask.none.Goals as goal
 
 pub returns : goal.returns

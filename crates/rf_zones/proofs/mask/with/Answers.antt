@@ -1,6 +1,6 @@
 use Rattle.std.proofs.Common.{arith}
 use Rattle.rf_zones.specs.Masks.{mask_width}
-use Rattle.rf_zones.proofs.MaskLemmas.{has_with}
+use Rattle.rf_zones.proofs.MaskLaws.{has_with}
 use Rattle.rf_zones.proofs.mask.with.Goals as goal
 
 pub returns : goal.returns

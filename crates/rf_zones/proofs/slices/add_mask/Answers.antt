@@ -1,6 +1,5 @@
-use Rattle.std.proofs.Common.{sym, ◌∙◌, ap}
+use Rattle.std.proofs.Common.{sym, ◌∙◌, ap, nat_eq}
 use Rattle.std.specs.List.{list_any}
-use Rattle.std.proofs.Common.{nat_eq}
 use Rattle.rf_zones.proofs.MinuteLemmas.{no_more}
 use Rattle.rf_zones.proofs.slices.add_mask.Goals as goal
 

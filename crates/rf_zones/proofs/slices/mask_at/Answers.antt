@@ -3,8 +3,8 @@ use Rattle.std.proofs.lemmas.List.{get_or_read}
 use Rattle.rf_zones.specs.Masks.{has_bit}
 use Rattle.rf_zones.specs.Slices.{on_at}
 use Rattle.rf_zones.specs.Times.{is_on}
-use Rattle.rf_zones.proofs.BitLemmas.{mask_of_all, on_there}
-use Rattle.rf_zones.proofs.MaskLemmas.{passed_no, passed_none, passed_yes}
+use Rattle.rf_zones.proofs.BitLaws.{mask_of_all, on_there}
+use Rattle.rf_zones.proofs.MaskLaws.{passed_no, passed_none, passed_yes}
 use Rattle.rf_zones.proofs.slices.mask_at.Goals as goal
 use Rattle.rf_zones.proofs.slices.mask_at.Goals.{then-on, else-on}
 

@@ -1,4 +1,4 @@
-use Rattle.rf_zones.proofs.StandLemmas.{coupling_either, coupling_own}
+use Rattle.rf_zones.proofs.StandLaws.{coupling_either, coupling_own}
 use Rattle.rf_zones.proofs.zones.coupling_is_mutual.Goals as goal
 
 pub returns : goal.returns

@@ -1,5 +1,5 @@
 use Rattle.std.proofs.Common.{ap, ◌∙◌, ◌*◌, ◌/◌}
-use Rattle.rf_zones.proofs.PairLemmas.{pairs_is}
+use Rattle.rf_zones.proofs.PairLaws.{pairs_is}
 use Rattle.rf_zones.proofs.zones.pairs.Goals as goal
 
 pub returns-clause-value : goal.returns-clause-value

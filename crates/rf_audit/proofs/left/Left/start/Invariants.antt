@@ -1,5 +1,4 @@
-use Rattle.std.proofs.Common.{◌≡◌, ◌<◌, ℕ, length, []}
-use Rattle.std.specs.Prelude.{None, slice_index_or}
+use Rattle.std.proofs.Common.{◌≡◌, ◌<◌, ℕ, length, [], None, slice_index_or}
 use Rattle.rf_log.specs.Case.{count_of, is_allowed}
 use Rattle.rf_show.specs.Case.{case_of}
 use Rattle.rf_audit.specs.Left.{in_sets, fixed_at}

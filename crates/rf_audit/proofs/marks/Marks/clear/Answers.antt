@@ -1,5 +1,4 @@
-use Rattle.std.proofs.Common.{◌≡◌, ◌∙◌, ℕ, not, ◌&&◌, ap, arith}
-use Rattle.std.specs.Prelude.{nat_le, nat_lt}
+use Rattle.std.proofs.Common.{◌≡◌, ◌∙◌, ℕ, not, ◌&&◌, ap, arith, nat_le, nat_lt}
 use Rattle.rf_audit.specs.Left.{has}
 use Rattle.rf_audit.proofs.marks.Marks.clear.Goals as goal
 

@@ -1,5 +1,4 @@
-use Rattle.std.proofs.Common.{◌≡◌, ℕ, not, ◌&&◌, length}
-use Rattle.std.specs.Prelude.{nat_le, nat_lt}
+use Rattle.std.proofs.Common.{◌≡◌, ℕ, not, ◌&&◌, length, nat_le, nat_lt}
 use Rattle.rf_audit.specs.Left.{has}
 use Rattle.rf_audit.proofs.marks.Marks.clear.Given as goal
 

@@ -1,7 +1,8 @@
 use Rattle.std.proofs.Common.{rules, ℕ, List, refl}
 use Rattle.rf_base.specs.FileName.{IsFileName}
-use Rattle.rf_base.proofs.PaddedLemmas.{padded_is, take_word}
+use Rattle.rf_base.proofs.PaddedLemmas.{padded_is}
 use Rattle.rf_base.proofs.file_name.FileName.read.Goals as goal
+use Rattle.rf_base.proofs.ListLaws.{take_word}
 
 pub invariant_of-result : goal.invariant_of-result
 invariant_of-result c =

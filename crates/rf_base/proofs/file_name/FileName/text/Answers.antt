@@ -1,5 +1,5 @@
 use Rattle.rf_base.proofs.FileNameLemmas.{visible_text}
-use Rattle.rf_base.proofs.TextLemmas.{ok_from_utf8}
+use Rattle.rf_base.proofs.TextLaws.{ok_from_utf8}
 use Rattle.rf_base.proofs.file_name.FileName.text.Goals as goal
 
 pub unwrap-requires : goal.unwrap-requires

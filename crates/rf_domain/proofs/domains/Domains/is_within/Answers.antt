@@ -1,5 +1,4 @@
-use Rattle.std.proofs.Common.{◌≡◌, ◌∙◌, ◌<◌, ℕ, List, [], Bool, length, get_or, sym, ap, arith}
-use Rattle.std.proofs.lemmas.Bool.{true≢false}
+use Rattle.std.proofs.Common.{◌≡◌, ◌∙◌, ◌<◌, ℕ, List, [], Bool, length, get_or, sym, ap, arith, true≢false}
 use Rattle.std.proofs.lemmas.List.{get_or_read}
 use Rattle.rf_domain.specs.Sets.{sizes}
 use Rattle.rf_domain.proofs.Within.{known_other, same_size, one_within}

@@ -2,9 +2,10 @@ use Rattle.std.proofs.Common.{◌≡◌, ◌∙◌, ◌<◌, List, [], Bool, len
 use Rattle.std.proofs.lemmas.List.{get_or_read}
 use Rattle.rf_domain.specs.Indices.{flag, between, outside}
 use Rattle.rf_domain.specs.Sets.{size_of, sizes, has, without, AreCounts}
-use Rattle.rf_domain.proofs.Bits.{and_idle, not_not}
-use Rattle.rf_domain.proofs.SetsLemmas.{known_carrier, sizes_set, has_set}
+use Rattle.rf_domain.proofs.Bits.{and_idle}
+use Rattle.rf_domain.proofs.SetsLaws.{known_carrier, sizes_set, has_set}
 use Rattle.rf_domain.proofs.domains.Domains.keep_range.Goals as goal
+use mathlib.Core.Bool.{not-not}
 
 -- what the call leaves of the one set
 record Left (c : goal.After-self-1) : Type 0 where
@@ -33,6 +34,6 @@ returns-clause-has c =
     let at = left c in
     let sets = c.self.inside.sets.items in
     has_set (λ old here. old && not here) and_idle sets c.args.carrier (outside c.args.lo c.args.hi) c.keep_range.new.self at.known
-    (λ k. c.keep_range.ensures.flags k ∙ ap (λ b. flag c.index_mut.result.now k && b) (sym (not_not (between c.args.lo c.args.hi k)))
+    (λ k. c.keep_range.ensures.flags k ∙ ap (λ b. flag c.index_mut.result.now k && b) (sym (not-not (between c.args.lo c.args.hi k)))
     ∙ ap (λ s. flag s k && not (outside c.args.lo c.args.hi k)) at.read)
     ∙ ap (λ s. without (has s) c.args.carrier (outside c.args.lo c.args.hi)) c.self.view_is

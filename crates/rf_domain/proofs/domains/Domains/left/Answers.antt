@@ -2,7 +2,7 @@ use Rattle.std.proofs.Common.{◌≡◌, ◌∙◌, ◌+◌, List, [], Bool, len
 use Rattle.std.proofs.lemmas.List.{get_or_read, length-map}
 use Rattle.rf_domain.specs.Indices.{flag, count_below}
 use Rattle.rf_domain.specs.Sets.{sizes, has, AreCounts}
-use Rattle.rf_domain.proofs.SetsLemmas.{total_more, total_bound, size_small}
+use Rattle.rf_domain.proofs.SetsLaws.{total_more, total_bound, size_small}
 use Rattle.rf_domain.proofs.domains.Domains.left.Goals.{After-count}
 use Rattle.rf_domain.proofs.domains.Domains.left.Goals as goal
 

@@ -2,9 +2,9 @@ use Rattle.std.proofs.Common.{◌≡◌, ◌∙◌, ◌<◌, List, [], Bool, len
 use Rattle.std.proofs.lemmas.List.{get_or_read}
 use Rattle.rf_domain.specs.Indices.{flag, between}
 use Rattle.rf_domain.specs.Sets.{size_of, sizes, has, with_all, AreCounts}
-use Rattle.rf_domain.proofs.Bits.{or_idle}
-use Rattle.rf_domain.proofs.SetsLemmas.{known_carrier, sizes_set, has_set}
+use Rattle.rf_domain.proofs.SetsLaws.{known_carrier, sizes_set, has_set}
 use Rattle.rf_domain.proofs.domains.Domains.put_back.Goals as goal
+use mathlib.Core.Bool.{or-false}
 
 -- what the call leaves of the one set
 record Left (c : goal.After-self-1) : Type 0 where
@@ -32,6 +32,6 @@ pub returns-clause-has : goal.returns-clause-has
 returns-clause-has c =
     let at = left c in
     let sets = c.self.inside.sets.items in
-    has_set (λ old here. old || here) or_idle sets c.args.carrier (between c.args.lo c.args.hi) c.put_back.new.self at.known
+    has_set (λ old here. old || here) or-false sets c.args.carrier (between c.args.lo c.args.hi) c.put_back.new.self at.known
     (λ k. c.put_back.ensures.flags k ∙ ap (λ s. flag s k || between c.args.lo c.args.hi k) at.read)
     ∙ ap (λ s. with_all (has s) c.args.carrier (between c.args.lo c.args.hi)) c.self.view_is

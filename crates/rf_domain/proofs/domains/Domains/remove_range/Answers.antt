@@ -3,7 +3,7 @@ use Rattle.std.proofs.lemmas.List.{get_or_read}
 use Rattle.rf_domain.specs.Indices.{flag, between}
 use Rattle.rf_domain.specs.Sets.{size_of, sizes, has, without, AreCounts}
 use Rattle.rf_domain.proofs.Bits.{and_idle}
-use Rattle.rf_domain.proofs.SetsLemmas.{known_carrier, sizes_set, has_set}
+use Rattle.rf_domain.proofs.SetsLaws.{known_carrier, sizes_set, has_set}
 use Rattle.rf_domain.proofs.domains.Domains.remove_range.Goals as goal
 
 -- what the call leaves of the one set

@@ -1,5 +1,4 @@
-use Rattle.std.proofs.Common.{◌≡◌, ◌∙◌, ◌+◌, ◌-◌, ◌/◌, ◌||◌, sym, ap, subst, length, replicate, ℕ, List}
-use Rattle.std.specs.Prelude.{nat_lt}
+use Rattle.std.proofs.Common.{◌≡◌, ◌∙◌, ◌+◌, ◌-◌, ◌/◌, ◌||◌, sym, ap, subst, length, replicate, ℕ, List, nat_lt}
 use Rattle.std.proofs.lemmas.List.{with_items_is, length-replicate}
 use Rattle.rf_domain.specs.Indices.{has_bit, between, IsPadded}
 use Rattle.rf_domain.proofs.Bits.{zero_bit, padded_full, filled, whole, nothing_below}

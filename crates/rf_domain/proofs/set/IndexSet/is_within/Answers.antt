@@ -1,5 +1,4 @@
-use Rattle.std.proofs.Common.{◌≡◌, ℕ, List, true, ◌∙◌, sym, ap, subst, length}
-use Rattle.std.specs.Prelude.{◌↔◌}
+use Rattle.std.proofs.Common.{◌≡◌, ℕ, List, true, ◌∙◌, sym, ap, subst, length, ◌↔◌}
 use Rattle.rf_domain.specs.Indices.{IsPadded, HasBitsWithin}
 use Rattle.rf_domain.proofs.Lowest.{sized}
 use Rattle.rf_domain.proofs.Within.{same_room, within_sets}

@@ -1,5 +1,4 @@
-use Rattle.std.proofs.Common.{◌≡◌, ℕ, List, ◌≤◌, false, subst, arith}
-use Rattle.std.specs.Prelude.{MatchOption}
+use Rattle.std.proofs.Common.{◌≡◌, ℕ, List, ◌≤◌, false, subst, arith, MatchOption}
 use Rattle.rf_domain.specs.Indices.{has_bit, IsFirstBit}
 use Rattle.rf_domain.proofs.Bits.{next_of}
 use Rattle.rf_domain.proofs.Lowest.{none_set, none_behind, first_next}

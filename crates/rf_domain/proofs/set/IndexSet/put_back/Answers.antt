@@ -3,7 +3,7 @@ use Rattle.std.specs.Vec.{with_items}
 use Rattle.std.proofs.lemmas.List.{with_items_is}
 use Rattle.rf_domain.specs.Indices.{flag, between, has_bit, flags_of, count_below, IsKept}
 use Rattle.rf_domain.proofs.Bits.{length-flags_of, flags_more}
-use Rattle.rf_domain.proofs.Counting.{count_bound}
+use Rattle.rf_domain.proofs.CountLaws.{count_bound}
 use Rattle.rf_domain.proofs.Lowest.{sized, count_filled, kept_filled}
 use Rattle.rf_domain.proofs.set.IndexSet.put_back.Goals.{After-fill_range}
 use Rattle.rf_domain.proofs.set.IndexSet.put_back.Goals as goal

@@ -1,5 +1,4 @@
-use Rattle.std.proofs.Common.{◌∙◌, sym, subst, ap, List, arith}
-use Rattle.std.specs.Prelude.{◌||◌}
+use Rattle.std.proofs.Common.{◌∙◌, sym, subst, ap, List, arith, ◌||◌}
 use Rattle.rf_exclusions.specs.declared.span.Span.{Span}
 use Rattle.rf_exclusions.specs.Spans.{AreApart, has_in, between, with_span}
 use Rattle.rf_exclusions.proofs.SpanLemmas.{with_span-has, with_span-apart, span_of}

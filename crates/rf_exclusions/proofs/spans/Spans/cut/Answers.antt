@@ -1,5 +1,4 @@
-use Rattle.std.proofs.Common.{◌∙◌, sym, subst, ap, List}
-use Rattle.std.specs.Prelude.{◌&&◌, not}
+use Rattle.std.proofs.Common.{◌∙◌, sym, subst, ap, List, ◌&&◌, not}
 use Rattle.rf_exclusions.specs.declared.span.Span.{Span}
 use Rattle.rf_exclusions.specs.Spans.{AreApart, has_in, between, without_span}
 use Rattle.rf_exclusions.proofs.SpanLemmas.{without_span-has, without_span-apart, span_of}

@@ -1,5 +1,4 @@
-use Rattle.std.proofs.Common.{◌∙◌, sym, ap, subst, List}
-use Rattle.std.specs.Prelude.{nat_le, ◌&&◌}
+use Rattle.std.proofs.Common.{◌∙◌, sym, ap, subst, List, nat_le, ◌&&◌}
 use Rattle.std.specs.List.{list_all}
 use Rattle.rf_exclusions.specs.declared.span.Span.{Span}
 use Rattle.rf_exclusions.specs.Spans.{AreApart}

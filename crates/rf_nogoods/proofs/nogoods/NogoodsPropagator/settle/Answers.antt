@@ -4,7 +4,7 @@ use Rattle.rf_trail.specs.Trace.{box_of}
 use Rattle.rf_propagate.specs.Laws.{Blocks, same}
 use Rattle.rf_nogoods.specs.Removals.{AreAmong}
 use Rattle.rf_propagate.proofs.BothLaws.{Kept, kept_on, grows_on, fewer_kept, counted_same}
-use Rattle.rf_nogoods.proofs.SweepLemmas.{settled_none, fit_slice, found_slice, blocks_from, left_less, not_asked, held_after}
+use Rattle.rf_nogoods.proofs.SweepLaws.{settled_none, fit_slice, found_slice, blocks_from, left_less, not_asked, held_after}
 use Rattle.rf_nogoods.proofs.nogoods.NogoodsPropagator.settle.Goals as goal
 
 pub passes-init : goal.passes-init

@@ -1,7 +1,7 @@
 use Rattle.std.proofs.Common.{◌∙◌, ap}
 use Rattle.rf_terms.specs.Kinds as table
 use Rattle.rf_log.specs.Case.{asked}
-use Rattle.rf_problem.proofs.CaseLemmas.{member_is}
+use Rattle.rf_problem.proofs.CaseLaws.{member_is}
 use Rattle.rf_problem.proofs.problem.Problem.asked.Goals as goal
 
 pub returns : goal.returns

@@ -1,5 +1,5 @@
 use Rattle.std.proofs.Common.{length, ap, arith}
-use Rattle.rf_problem.proofs.CaseLemmas.{count_is}
+use Rattle.rf_problem.proofs.CaseLaws.{count_is}
 use Rattle.rf_problem.proofs.problem.Problem.carriers.Goals as goal
 
 pub returns-clause-value : goal.returns-clause-value

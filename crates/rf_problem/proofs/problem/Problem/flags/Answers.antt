@@ -1,5 +1,5 @@
 use Rattle.std.proofs.Common.{◌∙◌, ap, length}
-use Rattle.rf_problem.proofs.CaseLemmas.{member_is}
+use Rattle.rf_problem.proofs.CaseLaws.{member_is}
 use Rattle.rf_problem.proofs.problem.Problem.flags.Goals as goal
 
 pub returns-clause-value : goal.returns-clause-value

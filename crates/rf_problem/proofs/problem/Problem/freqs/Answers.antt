@@ -1,5 +1,5 @@
 use Rattle.std.proofs.Common.{◌∙◌, ap}
-use Rattle.rf_problem.proofs.CaseLemmas.{member_is}
+use Rattle.rf_problem.proofs.CaseLaws.{member_is}
 use Rattle.rf_problem.proofs.problem.Problem.freqs.Goals as goal
 
 pub returns-clause-value : goal.returns-clause-value

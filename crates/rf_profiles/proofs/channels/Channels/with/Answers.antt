@@ -1,5 +1,4 @@
-use Rattle.std.proofs.Common.{ap, arith}
-use Rattle.std.proofs.Common.{length}
+use Rattle.std.proofs.Common.{ap, arith, length}
 use Rattle.rf_profiles.proofs.ChannelsLemmas.{IsChannels-push, length-channels-push}
 use Rattle.rf_profiles.proofs.channels.Channels.with.Goals as goal
 

@@ -1,5 +1,4 @@
-use Rattle.std.proofs.Common.{◌≡◌, ◌∙◌, [], true, ap, sym, subst, arith}
-use Rattle.std.specs.Prelude.{Some}
+use Rattle.std.proofs.Common.{◌≡◌, ◌∙◌, [], true, ap, sym, subst, Some}
 use Rattle.rf_log.specs.Case.{counts_of}
 use Rattle.rf_problem.specs.Problem.{ProblemData, case_of}
 use Rattle.rf_trail.specs.Trace.{box_of}
@@ -29,12 +28,6 @@ returns-clause-quiet c = λ quiet.
     subst (λ (p : ProblemData). IsQuiet (case_of p) [] true (box_of c.strike_all_bans.new.trail)) c.problem-problem.ensures
     (bans_quiet case c.strike_all_bans.new.trail counts c.in_ok-strike_all_bans.ensures.allowed (c.outcome_of-2.ensures.quiet case counts is))
 
-pub returns-then-is_done-clause-blocked : goal.returns-then-is_done-clause-blocked
-returns-then-is_done-clause-blocked c = λ quiet. record { each = λ some line among. absurd (omega (arith, among.1)) }
-
-pub returns-then-is_done-clause-fits : goal.returns-then-is_done-clause-fits
-returns-then-is_done-clause-fits c = c.requires.fits
-
 pub returns-then-is_done-clause-wiped : goal.returns-then-is_done-clause-wiped
 returns-then-is_done-clause-wiped c = λ carrier wiped.
     let is : c.outcome_of.result ≡ Wiped carrier = cc in
@@ -45,16 +38,10 @@ returns-in_err-strike_all_bans-clause-sound c =
     subst (λ (p : ProblemData). Extends (case_of p) c.args.theory.now.lines c.args.trail.now.entries c.strike_all_bans.new.trail.entries) c.problem-problem.ensures
     (c.strike_all_bans.ensures.sound c.args.theory.now.lines)
 
-pub returns-in_err-strike_all_bans-clause-fits : goal.returns-in_err-strike_all_bans-clause-fits
-returns-in_err-strike_all_bans-clause-fits c = c.requires.fits
-
 pub returns-in_err-copy-clause-sound : goal.returns-in_err-copy-clause-sound
 returns-in_err-copy-clause-sound c =
     subst (λ (p : ProblemData). Extends (case_of p) c.args.theory.now.lines c.args.trail.now.entries c.strike_all_bans.new.trail.entries) c.problem-problem.ensures
     (c.strike_all_bans.ensures.sound c.args.theory.now.lines)
-
-pub returns-in_err-copy-clause-fits : goal.returns-in_err-copy-clause-fits
-returns-in_err-copy-clause-fits c = c.requires.fits
 
 pub returns-clause-sound : goal.returns-clause-sound
 returns-clause-sound c =
@@ -68,9 +55,6 @@ returns-clause-fits c =
     c.in_ok-strike_all_bans.ensures.counts ∙ c.requires.counts ∙ ap (λ (p : ProblemData). counts_of (case_of p)) (sym c.problem-problem.ensures) in
     subst (λ (p : ProblemData). KeepsAllowed (case_of p) (Some c.in_ok-copy.field-0)) c.problem-problem.ensures
     (allowed_copy case c.strike_all_bans.new.trail c.domains.result.now _ c.in_ok-copy.ensures c.domains.ensures.sizes c.domains.ensures.has counts c.in_ok-strike_all_bans.ensures.allowed)
-
-pub returns-clause-blocked : goal.returns-clause-blocked
-returns-clause-blocked c = λ quiet. record { each = λ some line among. absurd (omega (arith, among.1)) }
 
 pub returns-clause-wiped : goal.returns-clause-wiped
 returns-clause-wiped c = λ carrier wiped.

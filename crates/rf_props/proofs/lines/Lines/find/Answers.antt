@@ -1,7 +1,6 @@
-use Rattle.std.proofs.Common.{◌≡◌, ◌<◌, ◌∙◌, List, ℕ, length, get_or, ap, sym, subst, arith}
-use Rattle.std.specs.Prelude.{Some}
+use Rattle.std.proofs.Common.{◌≡◌, ◌<◌, ◌∙◌, List, length, get_or, ap, sym, subst, arith, Some}
 use Rattle.rf_log.specs.declared.cond.Cond.{Cond}
-use Rattle.rf_log.specs.Hints.{Line, line_at}
+use Rattle.rf_log.specs.Hints.{Line}
 use Rattle.rf_propagate.specs.Laws.{numbers_of}
 use Rattle.rf_props.proofs.TheoryLemmas.{number_at, none_has, one_has}
 use Rattle.rf_props.proofs.lines.Lines.find.Goals as goal

@@ -1,6 +1,5 @@
-use Rattle.std.proofs.Common.{◌≡◌, ℕ, false, ℤ, pos, ◌≤ℤ◌, w64, subst, sym}
+use Rattle.std.proofs.Common.{◌≡◌, ℕ, false, ℤ, pos, ◌≤ℤ◌, w64, subst, sym, ltb-true}
 use Rattle.std.proofs.lemmas.Int.{to_z-of_z}
-use Rattle.std.proofs.lemmas.Bool.{ltb-true}
 use Rattle.rf_props.specs.Live.{Marks, cell_of, is_marked}
 use Rattle.rf_props.proofs.LiveLemmas.{far_next, far_none}
 use Rattle.rf_props.proofs.live.Live.is_far.Goals as goal

@@ -1,11 +1,11 @@
 use Rattle.std.proofs.Common.{length, ap, arith}
 use Rattle.std.proofs.lemmas.List.{length-map}
 use Rattle.rf_problem.specs.Problem.{case_of}
-use Rattle.rf_problem.proofs.CaseLemmas.{count_is}
-use Rattle.rf_props.proofs.CountLemmas.{counts_length}
+use Rattle.rf_problem.proofs.CaseLaws.{count_is}
 use Rattle.rf_props.proofs.LiveLemmas.{AreFreqs, marks_more, known_at, ordered_run}
 use Rattle.rf_props.proofs.live.Live.mark_left.Goals as goal
 use Rattle.rf_props.proofs.live.Live.mark_left.Goals.{In-Some}
+use Rattle.rf_log.proofs.CaseLaws.{counts_length}
 
 pub next-requires : goal.next-requires
 next-requires c =

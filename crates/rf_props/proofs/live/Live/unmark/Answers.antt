@@ -1,5 +1,4 @@
-use Rattle.std.proofs.Common.{◌≡◌, ◌+◌, ◌≤◌, true, ℤ, pos, w64, subst, sym, ap}
-use Rattle.std.specs.Prelude.{◌<ℤ◌}
+use Rattle.std.proofs.Common.{◌≡◌, ◌+◌, ◌≤◌, true, ℤ, pos, w64, subst, sym, ap, ◌<ℤ◌}
 use Rattle.std.proofs.lemmas.Int.{to_z-of_z}
 use Rattle.rf_props.specs.Live.{Marks, cell_of, is_marked}
 use Rattle.rf_props.proofs.LiveLemmas.{unmark_keeps}

@@ -31,12 +31,14 @@ all_done c =
     let round : GoesOn case c.rounds.trail c.sweep_round.new.trail = record { counts = c.sweep_round.ensures.counts; sound = c.sweep_round.ensures.sound } in
     quiet_round case c.args.kinds.now c.singles_of-single.result c.rounds.trail c.sweep_round.new.trail c.count_fixed.result c.count_fixed-before.result round
     (c.rounds.invariant.0.counts ∙ c.requires.counts)
-    (singles_left (case_of c.args.problem.now) c.rounds.trail c.domains.result.now c.singles_of-single.result c.domains.ensures.has c.singles_of-single.ensures) c.in_ok-sweep_round.ensures.swept c.count_fixed.ensures c.count_fixed-before.ensures c.if-count_fixed-before.true
+    (singles_left (case_of c.args.problem.now) c.rounds.trail c.domains.result.now c.singles_of-single.result c.domains.ensures.has c.singles_of-single.ensures)
+    c.in_ok-sweep_round.ensures.swept c.count_fixed.ensures c.count_fixed-before.ensures c.if-count_fixed-before.true
 
 pub returns-then-count_fixed-before-clause-rests : goal.returns-then-count_fixed-before-clause-rests
 returns-then-count_fixed-before-clause-rests c =
     let counts = c.sweep_round.ensures.counts ∙ c.rounds.invariant.0.counts ∙ c.requires.counts in
-    rests_copy (case_of c.args.problem.now) c.args.kinds.now c.sweep_round.new.trail c.domains-then-count_fixed-before.result.now c.in_ok-copy.field-0 c.in_ok-copy.ensures c.domains-then-count_fixed-before.ensures.sizes c.domains-then-count_fixed-before.ensures.has counts (all_done c)
+    rests_copy (case_of c.args.problem.now) c.args.kinds.now c.sweep_round.new.trail c.domains-then-count_fixed-before.result.now c.in_ok-copy.field-0 c.in_ok-copy.ensures
+    c.domains-then-count_fixed-before.ensures.sizes c.domains-then-count_fixed-before.ensures.has counts (all_done c)
 
 pub returns-then-count_fixed-before-clause-sound : goal.returns-then-count_fixed-before-clause-sound
 returns-then-count_fixed-before-clause-sound c = λ lines. grows_on (c.rounds.invariant.0.sound lines) (c.sweep_round.ensures.sound lines)
@@ -51,7 +53,8 @@ pub rounds-smaller : goal.rounds-smaller
 rounds-smaller c =
     let case = case_of c.args.problem.now in
     let round : GoesOn case c.rounds.trail c.sweep_round.new.trail = record { counts = c.sweep_round.ensures.counts; sound = c.sweep_round.ensures.sound } in
-    fewer_open case c.rounds.trail c.sweep_round.new.trail c.count_fixed.result c.count_fixed-before.result round c.count_fixed.ensures c.count_fixed-before.ensures c.if-count_fixed-before.false
+    fewer_open case c.rounds.trail c.sweep_round.new.trail c.count_fixed.result c.count_fixed-before.result round c.count_fixed.ensures c.count_fixed-before.ensures
+    c.if-count_fixed-before.false
 
 pub rounds-preserved : goal.rounds-preserved
 rounds-preserved c =

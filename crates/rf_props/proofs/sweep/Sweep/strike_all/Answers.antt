@@ -1,7 +1,6 @@
 use Rattle.std.proofs.Common.{FitsSigned, ◌∙◌, Ok, w64, length, ap, arith, rules}
 use Rattle.std.proofs.lemmas.Int.{to_z-of_z}
 use Rattle.std.proofs.lemmas.List.{length-map}
-use Rattle.rf_terms.proofs.KindLaws.{four_roles}
 use Rattle.rf_problem.specs.Problem.{case_of}
 use Rattle.rf_propagate.specs.Laws.{same}
 use Rattle.rf_props.specs.Sweeps.{left, sole_freq}
@@ -23,7 +22,8 @@ returns-in-None-window-clause-sound c = λ lines. same
 pub returns-in-None-window-clause-swept : goal.returns-in-None-window-clause-swept
 returns-in-None-window-clause-swept c =
     let s = c.args.self.now in
-    harmless_swept (case_of s.problem.now) c.args.trail.now s.single.now s.kind s.place c.reach_of.result c.args.others.now _ c.requires.counts c.requires.others c.in-Some.ensures.fixed c.reach_of.ensures
+    harmless_swept (case_of s.problem.now) c.args.trail.now s.single.now s.kind s.place c.reach_of.result c.args.others.now _ c.requires.counts c.requires.others
+    c.in-Some.ensures.fixed c.reach_of.ensures
     c.in-None-window.ensures
 
 pub returns-then-is_far-clause-sound : goal.returns-then-is_far-clause-sound
@@ -36,7 +36,8 @@ returns-then-is_far-clause-swept c =
     let hi = c.in-Some-window.range.1 in
     let lo_fits : FitsSigned w64 lo = search rules in
     let hi_fits : FitsSigned w64 hi = search rules in
-    far_swept (case_of s.problem.now) c.args.trail.now s.single.now s.kind s.place c.reach_of.result c.args.others.now _ lo hi c.requires.counts c.requires.others c.in-Some.ensures.fixed c.reach_of.ensures
+    far_swept (case_of s.problem.now) c.args.trail.now s.single.now s.kind s.place c.reach_of.result c.args.others.now _ lo hi c.requires.counts c.requires.others
+    c.in-Some.ensures.fixed c.reach_of.ensures
     c.in-Some-window.ensures.1
     (within_at (to_z-of_z w64 lo lo_fits) (to_z-of_z w64 hi hi_fits)
     (far_within (case_of s.problem.now) (left c.args.trail.now) c.args.live.now _ _ c.requires.live (c.is_far.ensures c.if-is_far.true)))
@@ -51,37 +52,7 @@ returns-then-branch-clause-live c =
 pub returns-else-branch-clause-live : goal.returns-else-branch-clause-live
 returns-else-branch-clause-live c = marked_on (record { counts = c.strike_within.ensures.counts; sound = c.strike_within.ensures.sound }) c.requires.live
 
-pub singles-requires-clause-few : goal.singles-requires-clause-few
-singles-requires-clause-few c = omega (arith, c.requires.others, four_roles c.args.self.now.kind)
-
 pub window-requires-clause-others : goal.window-requires-clause-others
 window-requires-clause-others c =
     let s = c.args.self.now in
     omega (arith, ap length c.in-Some.ensures.fixed.known, length-map c.args.others.now (sole_freq (case_of s.problem.now) (left c.args.trail.now)), c.requires.others)
-
-pub window-requires-clause-freqs : goal.window-requires-clause-freqs
-window-requires-clause-freqs c = c.in-Some.ensures.small
-
-pub reach_of-requires : goal.reach_of-requires
-reach_of-requires c = record { place = c.requires.place; reach = c.requires.reach; others = c.requires.others; known = c.requires.known }
-
-pub strike_within-requires-clause-small : goal.strike_within-requires-clause-small
-strike_within-requires-clause-small c = c.in-Some.ensures.small
-
-pub strike_within-requires-clause-fixed : goal.strike_within-requires-clause-fixed
-strike_within-requires-clause-fixed c = c.in-Some.ensures.fixed
-
-pub returns-in_err-strike_within-clause-sound : goal.returns-in_err-strike_within-clause-sound
-returns-in_err-strike_within-clause-sound c = c.strike_within.ensures.sound
-
-pub returns-then-branch-clause-sound : goal.returns-then-branch-clause-sound
-returns-then-branch-clause-sound c = c.strike_within.ensures.sound
-
-pub returns-then-branch-clause-swept : goal.returns-then-branch-clause-swept
-returns-then-branch-clause-swept c = c.in_ok-strike_within.ensures.swept
-
-pub returns-else-branch-clause-sound : goal.returns-else-branch-clause-sound
-returns-else-branch-clause-sound c = c.strike_within.ensures.sound
-
-pub returns-else-branch-clause-swept : goal.returns-else-branch-clause-swept
-returns-else-branch-clause-swept c = c.in_ok-strike_within.ensures.swept

@@ -2,7 +2,7 @@ use Rattle.std.proofs.Common.{◌∙◌, ◌<◌, w64, length, sym, arith}
 use Rattle.std.proofs.lemmas.Bool.{not-true, true≢false}
 use Rattle.std.proofs.lemmas.Int.{to_z-of_z}
 use Rattle.rf_problem.specs.Problem.{case_of}
-use Rattle.rf_problem.proofs.CaseLemmas.{count_is}
+use Rattle.rf_problem.proofs.CaseLaws.{count_is}
 use Rattle.rf_propagate.proofs.BothLaws.{grows_on}
 use Rattle.rf_props.proofs.KeptLemmas.{GoesOn}
 use Rattle.rf_props.proofs.SweepLemmas.{striking_start, striking_past, striking_more, struck_all, clear_within}

@@ -2,7 +2,7 @@ use Rattle.std.proofs.Common.{◌≡◌, sym, ◌∙◌, ap, ◌&&◌}
 use Rattle.std.specs.List.{list_all}
 use Rattle.rf_show.specs.Query.{all_meet, meet_at}
 use Rattle.rf_zones.specs.Masks.{has_bit}
-use Rattle.rf_rules.proofs.CompanyLemmas.{all-below, bits-meet, mates-no, mates-yes}
+use Rattle.rf_rules.proofs.CompanyLemmas.{bits-meet, mates-no, mates-yes}
 use Rattle.rf_rules.proofs.company.Company.mates.Goals as goal
 use Rattle.rf_rules.proofs.company.Company.mates.Goals.{After-has_all}
 
@@ -10,17 +10,13 @@ use Rattle.rf_rules.proofs.company.Company.mates.Goals.{After-has_all}
 all : (c : After-has_all) → all_meet c.args.size c.args.self.now.show.now.zones c.args.self.now.show.now.carriers c.args.t.now ≡ c.has_all.result
 all c =
     let show = c.args.self.now.show.now in
-    sym (c.has_all.ensures ∙ bits-meet c.args.size c.meeters-meeters.result show.zones show.carriers c.args.t.now (c.meeting_is_mutual.ensures _ _) c.meeters-meeters.ensures c.requires.taken)
-
-pub has_all-requires : goal.has_all-requires
-has_all-requires c = all-below _ _ _ c.requires.known.few c.requires.taken
+    sym
+    (c.has_all.ensures ∙ bits-meet c.args.size c.meeters-meeters.result show.zones show.carriers c.args.t.now (c.meeting_is_mutual.ensures _ _) c.meeters-meeters.ensures c.requires.taken)
 
 pub returns-then-not-has_all : goal.returns-then-not-has_all
 returns-then-not-has_all c = λ k h.
-    c.none.ensures k ∙ sym (mates-no c.args.self.now c.args.size c.args.t.now k (c.meeting_is_mutual.ensures _ _) h (all (goal.at.returns-then-not-has_all c).After-has_all ∙ c.if-not-has_all.true))
-
-pub sharers-requires : goal.sharers-requires
-sharers-requires c = all-below _ _ _ c.requires.known.few c.requires.taken
+    c.none.ensures k ∙ sym
+    (mates-no c.args.self.now c.args.size c.args.t.now k (c.meeting_is_mutual.ensures _ _) h (all (goal.at.returns-then-not-has_all c).After-has_all ∙ c.if-not-has_all.true))
 
 pub returns : goal.returns
 returns c = λ k h.

@@ -7,10 +7,10 @@ use Rattle.rf_rules.specs.Instances.{khz_in}
 use Rattle.rf_rules.specs.Paired.{Covers, pair_value}
 use Rattle.rf_rules.specs.Searches.{lane_of}
 use Rattle.rf_rules.specs.declared.lane.Lane.{Lane}
-use Rattle.rf_rules.proofs.FormLemmas.{abs-add, told}
 use Rattle.rf_rules.proofs.ReadyLemmas.{ready-lane, ready-lanes, ready-term}
 use Rattle.rf_rules.proofs.pairings.Pairings.add_all.Goals as goal
-use Rattle.rf_rules.proofs.pairings.Pairings.add_all.Goals.{After-sum, After-second_term-own}
+use Rattle.rf_rules.proofs.pairings.Pairings.add_all.Goals.{After-sum}
+use Rattle.rf_terms.proofs.FormLaws.{told, abs-add}
 
 pub bounds-search-last : goal.bounds-search-last
 bounds-search-last c = omega (arith, ready-lanes c.args.search.now c.requires.ready, c.loop-last-test.true)

@@ -1,12 +1,8 @@
-use Rattle.std.proofs.Common.{◌≡◌, ◌<◌, ◌%◌, ℕ, true, pos, replicate, length, get_or, ap, ◌∙◌, arith}
+use Rattle.std.proofs.Common.{◌≡◌, ◌<◌, ◌%◌, ℕ, true, replicate, length, get_or, ap, ◌∙◌, arith}
 use Rattle.std.proofs.lemmas.List.{get_or-replicate}
 use Rattle.rf_zones.specs.Masks.{has_bit}
-use Rattle.rf_rules.specs.declared.lane.Lane.{Lane}
-use Rattle.rf_rules.proofs.ReadyLemmas.{ready-lane, ready-lanes}
+use Rattle.rf_rules.proofs.ReadyLemmas.{ready-wide}
 use Rattle.rf_rules.proofs.pairings.Pairings.full.Goals as goal
-
-abbrev no-lane : Lane
-no-lane = record { term = pos 0; needs = 0 }
 
 pub returns : goal.returns
 returns c =
@@ -19,11 +15,6 @@ returns c =
     c.all.ensures k (omega (arith, h, c.requires.few)) in
     record {
       form = record { wide = omega (arith, c.from.ensures, c.widest.ensures.some); some = omega (arith, c.in_ok-vec.ensures.len) };
-      wide = λ k h. omega (
-        arith,
-        c.widest.ensures.wide k no-lane (omega (arith, h, ready-lanes s c.requires.ready)),
-        ap (λ (l : Lane). l.needs) (ready-lane s k no-lane c.requires.ready h),
-        c.from.ensures,
-      );
+      wide = ready-wide s c.widest.result _ c.requires.ready c.widest.ensures.wide (omega (arith, c.from.ensures));
       pairs = λ k d h _ _ _ product _ _. each _ k h;
     }

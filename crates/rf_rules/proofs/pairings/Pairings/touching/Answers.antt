@@ -1,26 +1,16 @@
-use Rattle.std.proofs.Common.{◌≡◌, true, pos, ap, sym, ◌∙◌, arith, inl, inr}
-use Rattle.std.proofs.lemmas.Bool.{cases_lt, true≢false}
-use Rattle.std.specs.Prelude.{◌&&◌, ◌||◌}
+use Rattle.std.proofs.Common.{◌≡◌, true, ap, sym, ◌∙◌, arith, inl, inr, true≢false, ◌&&◌, ◌||◌}
+use Rattle.std.proofs.lemmas.Bool.{cases_lt}
 use Rattle.rf_zones.specs.Masks.{has_bit}
 use Rattle.rf_rules.specs.Paired.{pair_value, stands}
-use Rattle.rf_rules.specs.declared.lane.Lane.{Lane}
-use Rattle.rf_rules.proofs.ReadyLemmas.{ready-lane, ready-lanes}
+use Rattle.rf_rules.proofs.ReadyLemmas.{ready-wide}
 use Rattle.rf_rules.proofs.pairings.Pairings.touching.Goals as goal
-
-abbrev no-lane : Lane
-no-lane = record { term = pos 0; needs = 0 }
 
 pub loop-first-init : goal.loop-first-init
 loop-first-init c =
     let s = c.args.search.now in
     record {
       form = record { wide = omega (arith, c.from.ensures, c.widest.ensures.some); some = omega (arith, c.in_ok-vec.ensures.len, c.room.ensures) };
-      wide = λ k h. omega (
-        arith,
-        c.widest.ensures.wide k no-lane (omega (arith, h, ready-lanes s c.requires.ready)),
-        ap (λ (l : Lane). l.needs) (ready-lane s k no-lane c.requires.ready h),
-        c.from.ensures,
-      );
+      wide = ready-wide s c.widest.result _ c.requires.ready c.widest.ensures.wide (omega (arith, c.from.ensures));
       pairs = λ k d h. absurd (omega (arith, h));
     }
 

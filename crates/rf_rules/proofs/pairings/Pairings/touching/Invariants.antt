@@ -1,5 +1,4 @@
-use Rattle.std.proofs.Common.{◌≡◌, ◌<◌, ◌≤◌, ℕ, true, length}
-use Rattle.std.specs.Prelude.{◌||◌}
+use Rattle.std.proofs.Common.{◌≡◌, ◌<◌, ◌≤◌, ℕ, true, length, ◌||◌}
 use Rattle.rf_zones.specs.Masks.{has_bit}
 use Rattle.rf_show.specs.Query.{asked}
 use Rattle.rf_rules.specs.Paired.{Covers, IsPairings, pair_value, stands}

@@ -1,16 +1,14 @@
-use Rattle.std.proofs.Common.{◌≡◌, ◌+◌, ◌-◌, ◌<◌, ◌++◌, ◌∷◌, [], ℕ, Bool, length, take, set, ap, sym, ◌∙◌, arith, to_z, of_z, w64}
+use Rattle.std.proofs.Common.{◌≡◌, ◌+◌, ◌-◌, ◌<◌, ◌++◌, ◌∷◌, [], ℕ, Bool, length, take, ap, sym, ◌∙◌, arith, w64}
 use Rattle.std.specs.List.{list_any}
-use Rattle.std.proofs.lemmas.List.{take_more_set}
 use Rattle.std.proofs.lemmas.Int.{to_z-of_z}
 use Rattle.rf_terms.specs.Kinds.{roles_of}
 use Rattle.rf_rules.specs.Tuples.{upto}
-use Rattle.rf_rules.specs.Instances.{AreCarriers}
 use Rattle.rf_rules.specs.Plans.{breaks_from}
-use Rattle.rf_terms.proofs.KindLaws.{four_roles}
-use Rattle.rf_rules.proofs.SearchLemmas.{AreCarriers-push}
-use Rattle.rf_rules.proofs.PlanLemmas.{any-found, any-more, any-zero, breaks-hopeless, breaks-next}
+use Rattle.rf_rules.proofs.ReadyLemmas.{taken-as, taken-more}
+use Rattle.rf_rules.proofs.PlanLaws.{breaks-hopeless, breaks-next}
 use Rattle.rf_rules.proofs.search.Search.+breaks.Goals as goal
-use Rattle.rf_rules.proofs.search.Search.+breaks.Goals.{Start, After-with-next, After-breaks}
+use Rattle.rf_rules.proofs.search.Search.+breaks.Goals.{Start, After-breaks}
+use Rattle.rf_rules.proofs.TupleLaws.{any-zero, any-found, any-more}
 
 -- an instance is broken with this carrier in the next role
 abbrev test : (t : ℕ) → Start t → ℕ → Bool
@@ -25,28 +23,19 @@ loop-carrier-preserved-then-is_hopeless t c =
     any-more (test t (goal.at.loop-carrier-preserved-then-is_hopeless t c).Start) c.loop-carrier.carrier (c.loop-carrier.carrier + 1) (omega arith) c.loop-carrier.invariant
     (breaks-hopeless s.show.now s.ats.now s.kind (take c.args.depth c.args.roles) c.loop-carrier.carrier (roles_of s.kind - c.args.depth - 1) c.if-is_hopeless.ensures)
 
-more : (t : ℕ) (c : After-with-next t) → take (c.args.depth + 1) (set c.args.roles c.args.depth c.loop-carrier.carrier) ≡ take c.args.depth c.args.roles ++ c.loop-carrier.carrier ∷ []
-more t c = let four : length c.args.roles ≡ 4 = omega arith in take_more_set c.args.roles c.args.depth c.loop-carrier.carrier (omega (arith, four, four_roles c.args.self.now.kind, c.requires.depth))
-
 pub breaks-requires : goal.breaks-requires
 breaks-requires t c =
-    let m = (goal.at.breaks-requires t c).After-with-next in
     let s = c.args.self.now in
-    let push : AreCarriers s.ats.now (take c.args.depth c.args.roles ++ c.loop-carrier.carrier ∷ []) =
-    AreCarriers-push s.ats.now (take c.args.depth c.args.roles) c.loop-carrier.carrier c.requires.taken c.loop-carrier-test.true in
-    let next : to_z w64 (of_z w64 c.with-next.result) ≡ c.with-next.result = to_z-of_z w64 c.with-next.result (record { sfits = c.with-next.type_inv }) in
-    let same : length s.coefficients.now ≡ roles_of s.kind = ap length c.requires.ready.coefficients in
-    let deep : c.args.depth + 1 < roles_of s.kind = omega (arith, same, c.if-depth-self.false, c.requires.depth) in
-    (omega (arith, deep, c.decreases), (c.requires.ready, (deep, (rw (more t m) (next ∙ c.with-next.ensures), rw (more t m) push))))
+    let deep : c.args.depth + 1 < roles_of s.kind = omega (arith, ap length c.requires.ready.coefficients, c.if-depth-self.false, c.requires.depth) in
+    let next = taken-more s c.args.roles c.args.depth c.loop-carrier.carrier _ (omega arith) (omega (arith, c.requires.depth)) c.requires.taken c.loop-carrier-test.true
+    (to_z-of_z w64 c.with-next.result (record { sfits = c.with-next.type_inv }) ∙ c.with-next.ensures) in
+    (omega (arith, deep, c.decreases), (c.requires.ready, (deep, next)))
 
 -- what the next roles' search says of the carrier
 judged : (t : ℕ) (c : After-breaks t) → test t (goal.at.After-breaks t c).Start c.loop-carrier.carrier ≡ c.breaks.result
 judged t c =
-    let m = (goal.at.After-breaks t c).After-with-next in
     let s = c.args.self.now in
-    let left : roles_of s.kind - c.args.depth - 1 ≡ roles_of s.kind - (c.args.depth + 1) = omega arith in
-    ap (λ u. breaks_from s.show.now s.ats.now s.kind u (roles_of s.kind - c.args.depth - 1)) (sym (more t m)) ∙
-    ap (breaks_from s.show.now s.ats.now s.kind (take (c.args.depth + 1) (set c.args.roles c.args.depth c.loop-carrier.carrier))) left ∙ sym c.breaks.ensures
+    sym (c.breaks.ensures ∙ taken-as (breaks_from s.show.now s.ats.now s.kind) s.kind c.args.roles c.args.depth c.loop-carrier.carrier _ _ (omega arith) c.requires.depth (omega arith))
 
 pub loop-carrier-preserved : goal.loop-carrier-preserved
 loop-carrier-preserved t c =
@@ -58,7 +47,8 @@ returns-then-breaks t c =
     let s = c.args.self.now in
     let yes = any-found (test t (goal.at.returns-then-breaks t c).Start) (length s.ats.now) c.loop-carrier.carrier c.loop-carrier-test.true
     (judged t (goal.at.returns-then-breaks t c).After-breaks ∙ c.if-breaks.true) in
-    sym (sym (breaks-next s.show.now s.ats.now s.kind (take c.args.depth c.args.roles) (roles_of s.kind - c.args.depth - 1) (roles_of s.kind - c.args.depth) (omega (arith, c.requires.depth))) ∙ yes)
+    sym
+    (sym (breaks-next s.show.now s.ats.now s.kind (take c.args.depth c.args.roles) (roles_of s.kind - c.args.depth - 1) (roles_of s.kind - c.args.depth) (omega (arith, c.requires.depth))) ∙ yes)
 
 pub returns : goal.returns
 returns t c =

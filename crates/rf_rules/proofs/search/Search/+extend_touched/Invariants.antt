@@ -3,7 +3,7 @@ use Rattle.rf_terms.specs.Kinds.{roles_of}
 use Rattle.rf_rules.specs.Tuples.{upto}
 use Rattle.rf_rules.specs.Tallies.{Extends}
 use Rattle.rf_rules.specs.Touched.{touched_in}
-use Rattle.rf_rules.proofs.TupleLemmas.{begun}
+use Rattle.rf_rules.proofs.TupleLaws.{begun}
 use Rattle.rf_rules.proofs.search.Search.+extend_touched.Given as goal
 
 abbrev pub decreases-extend_touched : goal.decreases-extend_touched

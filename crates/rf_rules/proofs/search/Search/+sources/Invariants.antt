@@ -2,7 +2,7 @@ use Rattle.std.proofs.Common.{◌≡◌, ◌++◌, take, length, ◌-◌}
 use Rattle.rf_terms.specs.Kinds.{roles_of}
 use Rattle.rf_rules.specs.Tuples.{upto}
 use Rattle.rf_rules.specs.Products.{noted_in}
-use Rattle.rf_rules.proofs.TupleLemmas.{begun}
+use Rattle.rf_rules.proofs.TupleLaws.{begun}
 use Rattle.rf_rules.proofs.search.Search.+sources.Given as goal
 
 abbrev pub decreases-sources : goal.decreases-sources

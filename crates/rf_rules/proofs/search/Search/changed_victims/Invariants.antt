@@ -2,7 +2,7 @@ use Rattle.std.proofs.Common.{length}
 use Rattle.rf_rules.specs.Tuples.{upto}
 use Rattle.rf_rules.specs.Tallies.{Extends}
 use Rattle.rf_rules.specs.Touched.{touched_in}
-use Rattle.rf_rules.proofs.TupleLemmas.{begun}
+use Rattle.rf_rules.proofs.TupleLaws.{begun}
 use Rattle.rf_rules.proofs.search.Search.changed_victims.Given as goal
 
 abbrev pub invariant-loop-carrier : goal.invariant-loop-carrier

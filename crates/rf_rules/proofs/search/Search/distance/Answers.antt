@@ -5,10 +5,11 @@ use Rattle.rf_terms.specs.Forms.{value_of}
 use Rattle.rf_rules.specs.Instances.{khz_in, khzs_in}
 use Rattle.rf_rules.specs.Searches.{lane_of}
 use Rattle.rf_rules.specs.declared.lane.Lane.{Lane}
-use Rattle.rf_rules.proofs.FormLemmas.{distance-is, lane-term, partial-push, told}
+use Rattle.rf_rules.proofs.FormLemmas.{distance-is, lane-term, partial-push}
 use Rattle.rf_rules.proofs.ReadyLemmas.{ready-bound, ready-lane, ready-lanes, ready-term}
 use Rattle.rf_rules.proofs.search.Search.distance.Goals as goal
 use Rattle.rf_rules.proofs.search.Search.distance.Goals.{Start}
+use Rattle.rf_terms.proofs.FormLaws.{told}
 
 abbrev no-lane : Lane
 no-lane = record { term = pos 0; needs = 0 }

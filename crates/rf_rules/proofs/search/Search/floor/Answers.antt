@@ -10,4 +10,5 @@ bounds-self-carrier c = omega (arith, ready-lanes c.args.self.now c.requires.rea
 pub returns-in-Spacing : goal.returns-in-Spacing
 returns-in-Spacing c =
     let s = c.args.self.now in
-    ap (λ (l : Lane). l.needs) (ready-lane s c.args.carrier (record { term = pos 0; needs = 0 }) c.requires.ready c.requires.carrier) ∙ floor-spacing s.show.now s.kind c.args.carrier c.in-Spacing.is
+    ap (λ (l : Lane). l.needs) (ready-lane s c.args.carrier (record { term = pos 0; needs = 0 }) c.requires.ready c.requires.carrier) ∙ floor-spacing s.show.now s.kind
+    c.args.carrier c.in-Spacing.is

@@ -1,5 +1,4 @@
-use Rattle.std.proofs.Common.{◌≡◌, false, ap, sym, ◌∙◌, List, ℕ, ◌++◌, ◌∷◌}
-use Rattle.std.specs.Prelude.{is_some, not}
+use Rattle.std.proofs.Common.{◌≡◌, false, ap, sym, ◌∙◌, List, ℕ, ◌++◌, ◌∷◌, is_some, not}
 use Rattle.rf_rules.specs.Instances.{is_candidate, is_in_order}
 use Rattle.rf_rules.proofs.HopelessLemmas.{hopeless-unassigned, hopeless-twice, hopeless-order, on-true}
 use Rattle.rf_rules.proofs.search.Search.is_hopeless.Goals as goal

@@ -1,5 +1,4 @@
-use Rattle.std.proofs.Common.{◌≡◌, true, ap, sym, ◌∙◌}
-use Rattle.std.specs.Prelude.{is_some, not}
+use Rattle.std.proofs.Common.{◌≡◌, true, ap, sym, ◌∙◌, is_some, not}
 use Rattle.rf_rules.specs.Instances.{at_in}
 use Rattle.rf_rules.proofs.HopelessLemmas.{hopeless-order, hopeless-twice, hopeless-unassigned, last-joins}
 use Rattle.rf_rules.proofs.search.Search.joins.Goals as goal

@@ -3,7 +3,7 @@ use Rattle.std.proofs.lemmas.Int.{to_z-of_z}
 use Rattle.rf_rules.specs.Instances.{is_broken}
 use Rattle.rf_rules.specs.Conflicts.{conflict_of, product_of, sources_of}
 use Rattle.rf_rules.proofs.TallyLemmas.{none-more}
-use Rattle.rf_rules.proofs.TupleLemmas.{found-one, found-at_none}
+use Rattle.rf_rules.proofs.TupleLaws.{found-one, found-at_none}
 use Rattle.rf_rules.proofs.SearchLemmas.{broken-near, conflict-is, sources-push}
 use Rattle.rf_rules.proofs.ProductLemmas.{ordered-few}
 use Rattle.rf_rules.proofs.search.Search.judge.Goals as goal
@@ -26,7 +26,8 @@ pub returns-then-is_full : goal.returns-then-is_full
 returns-then-is_full c =
     let s = c.args.self.now in
     let yes = near (goal.at.returns-then-is_full c).After-joins ∙ c.if-not-joins.false in
-    rw (found-one (conflict_of s.show.now s.ats.now s.kind) _ (c.args.t.now ++ c.args.last ∷ []) yes) (c.count.ensures (conflict_of s.show.now s.ats.now s.kind (c.args.t.now ++ c.args.last ∷ [])))
+    rw (found-one (conflict_of s.show.now s.ats.now s.kind) _ (c.args.t.now ++ c.args.last ∷ []) yes)
+    (c.count.ensures (conflict_of s.show.now s.ats.now s.kind (c.args.t.now ++ c.args.last ∷ [])))
 
 pub returns : goal.returns
 returns c =

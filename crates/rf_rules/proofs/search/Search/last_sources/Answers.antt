@@ -1,4 +1,4 @@
-use Rattle.std.proofs.Common.{◌≡◌, ◌<◌, ◌++◌, ◌∷◌, [], length, take, refl, ap, sym, ◌∙◌, arith}
+use Rattle.std.proofs.Common.{◌≡◌, ◌++◌, ◌∷◌, [], length, take, refl, ap, sym, ◌∙◌, arith}
 use Rattle.rf_terms.specs.Kinds.{roles_of}
 use Rattle.rf_show.specs.Show.{ShowData}
 use Rattle.rf_rules.proofs.CompanyLemmas.{all-below}
@@ -17,16 +17,11 @@ loop-carrier-init c = sources-start c.args.self.now c.args.lo c.args.hi (take c.
 pub note-requires-clause-few : goal.note-requires-clause-few
 note-requires-clause-few c = omega (arith, c.requires.known.few, ap (λ (d : ShowData). length d.carriers) c.requires.same, c.requires.ready.carriers)
 
-pub note-requires-clause-opened : goal.note-requires-clause-opened
-note-requires-clause-opened c = sym c.is_open.ensures ∙ c.if-not-is_open.false
-
 pub note-requires-clause-mates : goal.note-requires-clause-mates
 note-requires-clause-mates c =
-    let s = c.args.self.now in
-    let there : c.loop-carrier.carrier < length c.args.company.now.show.now.carriers =
-    omega (arith, ap (λ (d : ShowData). length d.carriers) c.requires.same, c.requires.ready.carriers, c.loop-carrier-test.true) in
-    let size : length s.coefficients.now ≡ roles_of s.kind = ap length c.requires.ready.coefficients in
-    rw (c.requires.same, size) at (c.mates-mates.ensures c.loop-carrier.carrier there)
+    let size : length c.args.self.now.coefficients.now ≡ roles_of c.args.self.now.kind = ap length c.requires.ready.coefficients in
+    rw (c.requires.same, size) at (c.mates-mates.ensures c.loop-carrier.carrier
+    (omega (arith, ap (λ (d : ShowData). length d.carriers) c.requires.same, c.requires.ready.carriers, c.loop-carrier-test.true)))
 
 pub loop-carrier-preserved : goal.loop-carrier-preserved
 loop-carrier-preserved c =

@@ -1,7 +1,7 @@
 use Rattle.std.proofs.Common.{◌≡◌, ◌++◌, length, take}
 use Rattle.rf_rules.specs.Tuples.{upto}
 use Rattle.rf_rules.specs.Products.{noted_in}
-use Rattle.rf_rules.proofs.TupleLemmas.{begun}
+use Rattle.rf_rules.proofs.TupleLaws.{begun}
 use Rattle.rf_rules.proofs.search.Search.last_sources.Given as goal
 
 abbrev pub invariant-loop-carrier : goal.invariant-loop-carrier

@@ -1,4 +1,4 @@
-use Rattle.std.proofs.Common.{◌≡◌, ◌+◌, ◌-◌, ◌++◌, ◌∷◌, [], length, unsigned_abs, ap, sym, ◌∙◌, arith, to_z, of_z, w64}
+use Rattle.std.proofs.Common.{◌≡◌, ◌+◌, ◌-◌, ◌++◌, ◌∷◌, [], length, ap, sym, ◌∙◌, arith, w64}
 use Rattle.std.proofs.lemmas.Int.{to_z-of_z}
 use Rattle.rf_terms.specs.Kinds.{roles_of}
 use Rattle.rf_zones.specs.Masks.{has_bit}
@@ -8,24 +8,17 @@ use Rattle.rf_rules.specs.Searches.{broken_in, partial_of}
 use Rattle.rf_rules.proofs.PairLemmas.{quiet-second}
 use Rattle.rf_rules.proofs.ReadyLemmas.{ready-bound}
 use Rattle.rf_rules.proofs.search.Search.near.Goals as goal
-use Rattle.rf_rules.proofs.search.Search.near.Goals.{After-near}
 
 pub near-requires-clause-small : goal.near-requires-clause-small
-near-requires-clause-small c =
-    let told : to_z w64 (of_z w64 c.args.product) ≡ c.args.product = to_z-of_z w64 c.args.product c.ranges.product in
-    let form : c.args.product ≡ partial_of c.args.self.now c.args.t.now = c.requires.product in
-    omega (arith, ap unsigned_abs told, ap unsigned_abs form, ready-bound c.args.self.now c.args.t.now c.requires.ready)
+near-requires-clause-small c = rw (to_z-of_z w64 c.args.product c.ranges.product, c.requires.product) (ready-bound c.args.self.now c.args.t.now c.requires.ready)
 
 pub returns : goal.returns
 returns c =
     let s = c.args.self.now in
     let t = c.args.t.now in
     let p = c.args.pairings.now in
-    let told : to_z w64 (of_z w64 c.args.product) ≡ c.args.product = to_z-of_z w64 c.args.product c.ranges.product in
-    let form : c.args.product ≡ partial_of s t = c.requires.product in
-    let mask : c.near.result ≡ mask_near p (partial_of s t) = c.near.ensures ∙ ap (mask_near p) (told ∙ form) in
-    let same : length s.coefficients.now ≡ roles_of s.kind = ap length c.requires.ready.coefficients in
-    let n : length t + 2 ≡ roles_of s.kind = omega (arith, same, c.if-t-self.false, c.requires.open) in
+    let mask : c.near.result ≡ mask_near p (partial_of s t) = c.near.ensures ∙ ap (mask_near p) (to_z-of_z w64 c.args.product c.ranges.product ∙ c.requires.product) in
+    let n : length t + 2 ≡ roles_of s.kind = omega (arith, ap length c.requires.ready.coefficients, c.if-t-self.false, c.requires.open) in
     let left : roles_of s.kind - length t - 1 ≡ 1 = omega (arith, n) in
     λ k h out.
     let quiet : broken_in s (t ++ k ∷ []) (tuples 1 (upto (length s.ats.now))) ≡ [] = quiet-second s p t k c.requires.ready c.requires.paired n h (sym (ap (λ m. has_bit m k) mask) ∙ out) in

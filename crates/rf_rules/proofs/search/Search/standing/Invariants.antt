@@ -1,5 +1,4 @@
-use Rattle.std.proofs.Common.{◌≡◌, ◌<◌, ◌≤◌, ℕ, false}
-use Rattle.std.specs.Prelude.{is_some}
+use Rattle.std.proofs.Common.{◌≡◌, ◌<◌, ◌≤◌, ℕ, false, is_some}
 use Rattle.rf_zones.specs.Masks.{has_bit}
 use Rattle.rf_rules.specs.Instances.{at_in}
 use Rattle.rf_rules.proofs.search.Search.standing.Given as goal

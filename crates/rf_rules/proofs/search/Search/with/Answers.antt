@@ -2,9 +2,10 @@ use Rattle.std.proofs.Common.{◌≡◌, ◌≤◌, ℤ, pos, ◌+ℤ◌, ◌*�
 use Rattle.std.proofs.lemmas.Int.{to_z-of_z}
 use Rattle.rf_terms.specs.Kinds.{coefficients_of}
 use Rattle.rf_rules.specs.Instances.{khz_in}
-use Rattle.rf_rules.proofs.FormLemmas.{partial-push, told}
+use Rattle.rf_rules.proofs.FormLemmas.{partial-push}
 use Rattle.rf_rules.proofs.ReadyLemmas.{ready-bound, ready-small}
 use Rattle.rf_rules.proofs.search.Search.with.Goals as goal
+use Rattle.rf_terms.proofs.FormLaws.{told}
 
 pub sum-requires-clause-a : goal.sum-requires-clause-a
 sum-requires-clause-a c =

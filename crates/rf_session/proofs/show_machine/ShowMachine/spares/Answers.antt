@@ -1,5 +1,4 @@
-use Rattle.std.proofs.Common.{◌≡◌, ◌+◌, false, length, rules, Some}
-use Rattle.std.specs.Prelude.{nat_lt, position}
+use Rattle.std.proofs.Common.{◌≡◌, ◌+◌, false, length, rules, Some, nat_lt, position}
 use Rattle.rf_show.specs.Limits.{most_carriers}
 use Rattle.rf_show.specs.Show.{is_profile}
 use Rattle.rf_zones.specs.Zones.{zone_of}

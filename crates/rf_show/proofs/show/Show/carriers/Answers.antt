@@ -1,4 +1,4 @@
-use Rattle.rf_show.proofs.KeptLemmas.{carriers_kept, kept}
+use Rattle.rf_show.proofs.KeptLaws.{carriers_kept, kept}
 use Rattle.rf_show.proofs.show.Show.carriers.Goals as goal
 
 pub returns-clause-few : goal.returns-clause-few

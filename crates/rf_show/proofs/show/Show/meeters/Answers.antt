@@ -1,5 +1,5 @@
 use Rattle.rf_show.specs.Query.{meet_at}
-use Rattle.rf_show.proofs.CompanyLemmas.{none-passed}
+use Rattle.rf_show.proofs.CompanyLaws.{none-passed}
 use Rattle.rf_show.proofs.show.Show.meeters.Goals as goal
 
 pub loop-b-init : goal.loop-b-init

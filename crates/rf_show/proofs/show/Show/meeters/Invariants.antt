@@ -1,5 +1,4 @@
-use Rattle.std.proofs.Common.{◌≡◌, ◌&&◌, ℕ}
-use Rattle.std.specs.Prelude.{nat_lt}
+use Rattle.std.proofs.Common.{◌≡◌, ◌&&◌, ℕ, nat_lt}
 use Rattle.rf_zones.specs.Masks.{has_bit}
 use Rattle.rf_show.specs.Query.{meet_at}
 use Rattle.rf_show.proofs.show.Show.meeters.Given as goal

@@ -1,5 +1,5 @@
 use Rattle.std.proofs.Common.{arith}
-use Rattle.rf_show.proofs.KeptLemmas.{first_kept}
+use Rattle.rf_show.proofs.KeptLaws.{first_kept}
 use Rattle.rf_show.proofs.show.Show.new.Goals as goal
 
 pub invariant_of-result : goal.invariant_of-result

@@ -1,5 +1,4 @@
-use Rattle.std.proofs.Common.{◌≡◌, true, get_or, ap, sym, ◌∙◌}
-use Rattle.std.specs.Prelude.{is_some, find}
+use Rattle.std.proofs.Common.{◌≡◌, true, get_or, ap, sym, ◌∙◌, is_some, find}
 use Rattle.std.specs.Option.{option_copied}
 use Rattle.rf_show.specs.Show.{is_narrow, is_profile}
 use Rattle.rf_show.proofs.QueryLemmas.{carrier-has_profile, is_some-copied, found-narrow, margins-narrow, profile-is, spacing-narrow}

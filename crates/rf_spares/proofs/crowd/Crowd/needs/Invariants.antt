@@ -1,5 +1,4 @@
-use Rattle.std.proofs.Common.{◌≡◌, ◌++◌, ◌-◌, map}
-use Rattle.std.specs.Prelude.{replicate}
+use Rattle.std.proofs.Common.{◌≡◌, ◌++◌, ◌-◌, map, replicate}
 use Rattle.rf_show.specs.Query.{asked}
 use Rattle.rf_rules.specs.Tuples.{upto}
 use Rattle.rf_spares.specs.Crowds.{asked_at}

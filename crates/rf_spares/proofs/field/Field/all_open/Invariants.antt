@@ -1,5 +1,4 @@
-use Rattle.std.proofs.Common.{◌≡◌, ◌<◌, ◌≤◌, ◌+◌, ℕ, length}
-use Rattle.std.specs.Prelude.{All, filter, slice_index}
+use Rattle.std.proofs.Common.{◌≡◌, ◌<◌, ◌≤◌, ◌+◌, ℕ, length, All, filter, slice_index}
 use Rattle.rf_rules.specs.Tuples.{upto}
 use Rattle.rf_spares.specs.Fields.{channels_of, is_open_channel}
 use Rattle.rf_spares.specs.Markings.{IsReach}

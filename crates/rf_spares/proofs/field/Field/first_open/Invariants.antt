@@ -1,5 +1,4 @@
-use Rattle.std.proofs.Common.{◌<◌, ◌≤◌, ◌+◌, ℕ, length}
-use Rattle.std.specs.Prelude.{slice_index}
+use Rattle.std.proofs.Common.{◌<◌, ◌≤◌, ◌+◌, ℕ, length, slice_index}
 use Rattle.rf_spares.specs.Fields.{AreClosed, channels_of}
 use Rattle.rf_spares.specs.Markings.{IsReach}
 use Rattle.rf_spares.proofs.field.Field.first_open.Given as goal

@@ -1,5 +1,4 @@
-use Rattle.std.proofs.Common.{◌&&◌, ◌∙◌, ap, not, sym}
-use Rattle.std.specs.Prelude.{nat_le}
+use Rattle.std.proofs.Common.{◌&&◌, ◌∙◌, ap, not, sym, nat_le}
 use Rattle.rf_spares.proofs.FieldLemmas.{open-value}
 use Rattle.rf_spares.proofs.field.Field.is_open.Goals as goal
 

@@ -1,9 +1,8 @@
-use Rattle.std.proofs.Common.{◌≡◌, ◌++◌, ◌∷◌, [], ◌∙◌, ap, arith, length, sym}
-use Rattle.std.specs.Prelude.{None, Some}
-use Rattle.std.proofs.lemmas.List.{length-append}
+use Rattle.std.proofs.Common.{◌≡◌, ◌++◌, ◌∷◌, [], ◌∙◌, ap, arith, length, sym, None, Some, length-append}
 use Rattle.rf_spares.specs.Harms.{harms}
 use Rattle.rf_spares.specs.Searches.{site}
-use Rattle.rf_spares.proofs.ChoiceLemmas.{settled-marks}
+use Rattle.rf_spares.proofs.FieldLemmas.{gained-marks}
+use Rattle.rf_spares.proofs.HarmLemmas.{harms-more}
 use Rattle.rf_spares.proofs.field.Field.settle.Goals as goal
 
 pub returns-clause-known : goal.returns-clause-known
@@ -18,6 +17,6 @@ returns-clause-known c =
       known = c.requires.known.known;
       few = omega (arith, c.requires.room, ap length more, length-append old.ats.items (Some c.args.khz ∷ []));
       spans = λ k low. let spans = c.requires.known.spans k low in (omega (arith, spans.0, gains.low), omega (arith, spans.1, gains.low, gains.size));
-      marks = λ f few spans. settled-marks (site old.crowd) old.ats.items c.args.khz old.marks c.mark_all.new.marks c.requires.known.marks gains f few spans
-          ∙ ap (λ zs. harms (site old.crowd) zs None f) (sym more);
+      marks = λ f few spans. gained-marks old.marks c.mark_all.new.marks _ _ c.requires.known.marks gains f few spans
+          ∙ (sym (harms-more (site old.crowd) old.ats.items c.args.khz f) ∙ ap (λ zs. harms (site old.crowd) zs None f) (sym more));
     }

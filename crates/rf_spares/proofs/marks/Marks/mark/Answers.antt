@@ -1,6 +1,6 @@
 use Rattle.std.proofs.Common.{refl, arith, ap, ◌-◌, ◌∙◌, length-set, max}
 use Rattle.rf_spares.specs.Markings.{is_marked}
-use Rattle.rf_spares.proofs.MarkLemmas.{mark-one}
+use Rattle.rf_spares.proofs.ListLemmas.{mark-one}
 use Rattle.rf_spares.proofs.marks.Marks.mark.Goals as goal
 
 pub returns : goal.returns

@@ -1,5 +1,4 @@
-use Rattle.std.proofs.Common.{◌≡◌}
-use Rattle.std.specs.Prelude.{replicate}
+use Rattle.std.proofs.Common.{◌≡◌, replicate}
 use Rattle.rf_spares.proofs.marks.Marks.none.Given as goal
 
 abbrev pub invariant-loop-k : goal.invariant-loop-k

@@ -1,17 +1,15 @@
-use Rattle.std.proofs.Common.{◌≡◌, ◌≤◌, ◌+◌, ◌-◌, ◌||◌, ◌++◌, ◌∷◌, [], ℕ, Bool, length, set, take, ap, sym, ◌∙◌, arith}
-use Rattle.std.specs.List.{list_any}
+use Rattle.std.proofs.Common.{◌∙◌, ◌≡◌, ◌≤◌, ◌+◌, ◌-◌, ◌++◌, ◌∷◌, [], ℕ, length, set, take, ap, sym, ◌∙◌, arith}
 use Rattle.std.proofs.lemmas.List.{length-take-le, take_more_set}
 use Rattle.rf_terms.specs.Kinds.{roles_of}
 use Rattle.rf_terms.proofs.KindLaws.{four_roles}
-use Rattle.rf_rules.specs.Tuples.{upto}
 use Rattle.rf_rules.specs.Instances.{AreCarriers}
-use Rattle.rf_rules.proofs.SearchLemmas.{AreCarriers-push}
 use Rattle.rf_spares.specs.Harms.{harms_from}
 use Rattle.rf_spares.specs.Searches.{site_of}
-use Rattle.rf_spares.proofs.ListLemmas.{any-plus}
-use Rattle.rf_spares.proofs.SearchLemmas.{any-front, any-none, gains-as, gains-none, gains-then, harms-last, harms-next, harms-unwanted}
+use Rattle.rf_spares.proofs.SearchLemmas.{any-front, gains-as, gains-next, gains-none, harms-last, harms-next}
+use Rattle.std.proofs.lemmas.Bool.{and_left}
 use Rattle.rf_spares.proofs.search.Search.+extend.Goals as goal
 use Rattle.rf_spares.proofs.search.Search.+extend.Goals.{After-next-from, After-extend-arg-1}
+use Rattle.rf_rules.proofs.TupleLaws.{AreCarriers-push, any-none}
 
 pub returns-then-depth-roles : goal.returns-then-depth-roles
 returns-then-depth-roles t c =
@@ -30,7 +28,7 @@ pub loop-carrier-init : goal.loop-carrier-init
 loop-carrier-init t c =
     let s = c.args.self.now in
     gains-none _ _ (λ f. any-none _ _ (λ i low. let b = c.next-from.ensures.below i low in
-    harms-unwanted (site_of s) s.ats.now s.must s.kind s.role (take c.args.depth c.args.others ++ i ∷ []) _ f (omega (arith, b.0, long t c)) b.1))
+    harms-last (site_of s) s.ats.now s.must s.kind s.role (take c.args.depth c.args.others ++ i ∷ []) _ f (omega (arith, b.0, long t c)) ∙ and_left _ _ b.1))
 
 more : (t : ℕ) (c : After-extend-arg-1 t) → take (c.args.depth + 1) (set c.args.others c.args.depth c.loop-carrier.carrier) ≡ take c.args.depth c.args.others ++ c.loop-carrier.carrier ∷ []
 more t c =
@@ -50,12 +48,8 @@ loop-carrier-preserved t c =
     let m = (goal.at.loop-carrier-preserved t c).After-extend-arg-1 in
     let s = c.args.self.now in
     let k = roles_of s.kind - 1 - (c.args.depth + 1) in
-    let F : ℕ → ℕ → Bool = λ f d. harms_from (site_of s) s.ats.now s.must s.kind s.role (take c.args.depth c.args.others ++ d ∷ []) k f in
-    gains-as _ _ (λ f. list_any (F f) (upto c.loop-carrier.carrier) || harms_from (site_of s) s.ats.now s.must s.kind s.role
-    (take (c.args.depth + 1) (set c.args.others c.args.depth c.loop-carrier.carrier)) k f) _
-    (λ f few. ap (λ b. list_any (F f) (upto c.loop-carrier.carrier) || b) (ap (λ u. harms_from (site_of s) s.ats.now s.must s.kind s.role u k f) (more t m))
-    ∙ sym (any-plus (F f) c.loop-carrier.carrier))
-    (gains-then _ _ _ _ _ c.loop-carrier.invariant c.extend.ensures)
+    gains-next _ _ _ (λ f d. harms_from (site_of s) s.ats.now s.must s.kind s.role (take c.args.depth c.args.others ++ d ∷ []) k f) _ c.loop-carrier.carrier
+    c.loop-carrier.invariant c.extend.ensures (λ f. ap (λ u. harms_from (site_of s) s.ats.now s.must s.kind s.role u k f) (more t m))
 
 pub returns : goal.returns
 returns t c =
@@ -65,7 +59,7 @@ returns t c =
     any-front _ _ (length s.ats.now) (omega (arith, c.loop-carrier.auto.carrier-end c.next-from.ensures.order, c.next-from.ensures.within))
     (λ i a b.
     let past = c.next-from.ensures.above i (omega (arith, a, c.loop-carrier-test.false)) b in
-    harms-unwanted (site_of s) s.ats.now s.must s.kind s.role (take c.args.depth c.args.others ++ i ∷ []) _ f (omega (arith, past.0, long t m)) past.1)
+    harms-last (site_of s) s.ats.now s.must s.kind s.role (take c.args.depth c.args.others ++ i ∷ []) _ f (omega (arith, past.0, long t m)) ∙ and_left _ _ past.1)
     ∙ harms-next (site_of s) s.ats.now s.must s.kind s.role (take c.args.depth c.args.others) (roles_of s.kind - 1 - (c.args.depth + 1))
     (roles_of s.kind - 1 - c.args.depth) f (omega (arith, c.if-depth-roles.false, c.roles.ensures.value, c.requires.depth)))
     c.loop-carrier.invariant

@@ -1,5 +1,4 @@
-use Rattle.std.proofs.Common.{◌≡◌, ◌∙◌, ◌-◌, ◌<◌, length, sym, ap, subst, arith, List}
-use Rattle.std.specs.Prelude.{Some, slice_get}
+use Rattle.std.proofs.Common.{◌≡◌, ◌-◌, length, ap, subst, arith, List, Some, slice_get}
 use Rattle.rf_trail.specs.declared.entry.Entry.{Entry}
 use Rattle.rf_trail.proofs.PieceLemmas.{entry_at, as_many}
 use Rattle.rf_trail.proofs.trail.Trail.entry.Goals as goal

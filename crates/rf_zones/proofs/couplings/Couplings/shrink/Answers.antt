@@ -1,6 +1,5 @@
-use Rattle.std.proofs.Common.{◌≡◌, ℕ, List, true, sym, ap, ◌∙◌, ◌-◌, ◌≤◌, drop, take, replicate, length, arith}
+use Rattle.std.proofs.Common.{◌≡◌, ℕ, List, true, sym, ap, ◌∙◌, ◌-◌, ◌≤◌, drop, take, replicate, length, arith, length-drop}
 use Rattle.std.specs.List.{list_all}
-use Rattle.std.proofs.lemmas.List.{length-drop}
 use Rattle.rf_zones.specs.Couplings.{is_apart}
 use Rattle.rf_zones.specs.declared.coupling.Coupling.{Coupling}
 use Rattle.rf_zones.specs.declared.coupling.Coupling.TheVariants.{Apart}

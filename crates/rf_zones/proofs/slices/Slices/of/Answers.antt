@@ -1,6 +1,5 @@
-use Rattle.std.proofs.Common.{◌≡◌, true, take, sym, ◌∙◌, ap, arith}
+use Rattle.std.proofs.Common.{◌≡◌, true, take, sym, ◌∙◌, ap, arith, take_all}
 use Rattle.std.specs.List.{list_all}
-use Rattle.std.proofs.lemmas.List.{take_all}
 use Rattle.rf_zones.specs.Times.{is_interval}
 use Rattle.rf_zones.specs.Masks.{has_bits}
 use Rattle.rf_zones.proofs.MinuteLemmas.{passes_start, starts_tell, starts_real}

@@ -1,5 +1,5 @@
 use Rattle.std.proofs.Common.{◌≡◌, ◌+◌, ap, sym, ◌∙◌, length, arith}
-use Rattle.rf_zones.proofs.PairLemmas.{pairs_fit, pairs-next}
+use Rattle.rf_zones.proofs.PairLaws.{pairs_fit, pairs-next}
 use Rattle.rf_zones.proofs.ZonesLemmas.{IsZones-with_zone, free-with_zone}
 use Rattle.rf_zones.proofs.zones.Zones.add.Goals as goal
 

@@ -1,6 +1,6 @@
 use Rattle.std.proofs.Common.{◌<◌, ap, length, arith}
 use Rattle.rf_zones.specs.Zones.{pairs, pair_place}
-use Rattle.rf_zones.proofs.PairLemmas.{pair_within}
+use Rattle.rf_zones.proofs.PairLaws.{pair_within}
 use Rattle.rf_zones.proofs.zones.Zones.coupling.Goals as goal
 
 pub at-requires : goal.at-requires

@@ -3,7 +3,7 @@ use Rattle.std.specs.List.{list_all}
 use Rattle.std.proofs.lemmas.List.{length_push}
 use Rattle.rf_zones.specs.Couplings.{is_apart}
 use Rattle.rf_zones.specs.declared.coupling.Coupling.{Coupling}
-use Rattle.rf_zones.proofs.PairLemmas.{before_last}
+use Rattle.rf_zones.proofs.PairLaws.{before_last}
 use Rattle.rf_zones.proofs.ZonesLemmas.{IsZones-front, distinct-last, put_back}
 use Rattle.rf_zones.proofs.zones.Zones.drop_last.Goals as goal
 

@@ -1,7 +1,7 @@
 use Rattle.std.proofs.Common.{◌<◌, ap, length, arith}
 use Rattle.rf_zones.specs.Zones.{pairs, pair_place}
-use Rattle.rf_zones.proofs.StandLemmas.{stand_set}
-use Rattle.rf_zones.proofs.PairLemmas.{pair_within}
+use Rattle.rf_zones.proofs.StandLaws.{stand_set}
+use Rattle.rf_zones.proofs.PairLaws.{pair_within}
 use Rattle.rf_zones.proofs.ZonesLemmas.{coupling_back}
 use Rattle.rf_zones.proofs.zones.Zones.set_coupling.Goals as goal
 
