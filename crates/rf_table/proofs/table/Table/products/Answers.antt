@@ -1,5 +1,4 @@
-use Rattle.std.proofs.Common.{◌≡◌, ap, subst, ◌∙◌}
-use Rattle.std.specs.Prelude.{IfOk}
+use Rattle.std.proofs.Common.{◌≡◌, ap, subst, ◌∙◌, IfOk}
 use Rattle.rf_show.specs.Show.{ShowData}
 use Rattle.rf_rules.specs.Products.{listed}
 use Rattle.rf_table.specs.Tables.{TableData}
